@@ -1,5 +1,5 @@
 -- A round of all workers, once their seats were taken back.
-use Rattle.std.proofs.Common.{◌≡◌, ℕ, ◌+◌, ◌++◌, true, List, [], length, sum_by, sym, ap, ◌∙◌, subst, arith}
+use Rattle.std.proofs.Common.{◌≡◌, ℕ, ◌+◌, true, List, length, sum_by, sym, ap, ◌∙◌, subst, arith}
 use Rattle.std.proofs.lemmas.List.{with_items_is}
 use Rattle.std.specs.Global.{Vec}
 use Rattle.std.specs.Vec.{with_items}
@@ -11,16 +11,14 @@ use Rattle.clr_net.specs.Net.{Net}
 use Rattle.pay_words.specs.Views.{BoardView, IsOver, SeatView}
 use Rattle.pay_words.specs.declared.view.Shown.{Shown}
 use Rattle.raise_journal.specs.Gathered.{HasGrownBy, raises_of_all as all_of}
-use Rattle.settle.specs.Asks.{IsReady, IsRoundOn}
-use Rattle.settle.specs.Between.{AreOfBoard, HaveGrownAlike, IsBack, IsBetween, noted_in, opened_workers, raises_of_all, without_first}
-use Rattle.settle.specs.Calls.{HaveCalledFrom}
+use Rattle.settle.specs.Asks.{AreTakenBack, IsReady, IsRoundOn}
+use Rattle.settle.specs.Between.{AreOfBoard, HaveGrownAlike, IsBetween, noted_in, opened_workers, without_first}
 use Rattle.settle.specs.Drives.{IsPlan, IsRunOn}
-use Rattle.settle.specs.Offices.{AreOffices}
 use Rattle.settle.specs.Rounds.{AreRounded}
 use Rattle.settle.specs.declared.plan.Plan.{Plan}
 use Rattle.settle.specs.declared.state.RunState.{RunState}
 use Rattle.settle.proofs.AllDown.{idle_between}
-use Rattle.settle.proofs.Handed.{IsRest, first_rest}
+use Rattle.settle.proofs.Handed.{first_rest}
 use Rattle.settle.proofs.Rounded.{between_again, of_board, others_at_rest, round_is}
 use Rattle.settle.proofs.Waiting.{noted_after}
 
@@ -40,14 +38,13 @@ module _ {board : BoardView} {net : Net} {plan : Plan} {master : SeatView} {stat
 
   -- and once they did, it was a round
   pub round_closed : (m t : SeatView) (worked left : RunState) (visits : ℕ) → m.shows ≡ without_first plan.workers plan.workers master.shows
-      → t.table ≡ board.table → IsOver t.shows → IsBack board.table.workers board.net m.shows news t.shows 0
-      → AreOffices board.net board.table.workers board.table.workers left.offices.items → HaveCalledFrom 0 board.net left.called news
-      → t.shows.taken ≡ m.shows.taken + visits → visits ≡ sum_by (λ (k : WorkerView). k.visits) news → t.shows.raises ≡ m.shows.raises ++ raises_of_all news
+      → t.table ≡ board.table → IsOver t.shows → AreTakenBack board news m.shows worked t.shows left
+      → t.shows.taken ≡ m.shows.taken + visits → visits ≡ sum_by (λ (k : WorkerView). k.visits) news
       → IsAtMost t.shows.paid (least t.shows.net) → IsAtMost t.shows.sights (least t.shows.net)
       → HasGrownBy state.journal.raises worked.journal.raises (all_of state.waiting.items)
-      → HaveGrownAlike worked.journal.raises [] (noted_in left.journal.raises left.waiting.items) m.shows.raises t.shows.raises
       → IsRoundOn board net plan units visits master state t left
-  round_closed m t worked left visits is table over back offices called taken in_all made paid_low sights_low grown noted =
+  round_closed m t worked left visits is table over all taken in_all paid_low sights_low grown =
+      let back = all.back in
       let w = plan.workers in
       let sweeps = plan.sweeps in
       let s = master.shows in
@@ -61,10 +58,10 @@ module _ {board : BoardView} {net : Net} {plan : Plan} {master : SeatView} {stat
       let again : IsBetween net t.shows = between_again board net s w sweeps units news here workers some few between rounded m.shows t.shows over back (back.master ∙ is_master) in
       record {
         idle = idle_between net t.shows again;
-        ready = record { table_is = table; between = again; offices = rw (workers, here) offices };
-        called = others_at_rest board net s w sweeps units news here workers some few between rounded m.shows t.shows over back left.called again (rw here called);
-        round = round_is board net s w sweeps units news here workers some few between rounded m.shows t.shows over back visits is taken in_all made paid_low sights_low;
+        ready = record { table_is = table; between = again; offices = rw (workers, here) all.offices };
+        called = others_at_rest board net s w sweeps units news here workers some few between rounded m.shows t.shows over back left.called again (rw here all.called);
+        round = round_is board net s w sweeps units news here workers some few between rounded m.shows t.shows over back visits is taken in_all all.raises paid_low sights_low;
         noted = subst (λ (rs : List Raise). HaveGrownAlike state.journal.raises state.waiting.items now rs t.shows.raises)
             (ap (λ (u : Shown). u.raises) is ∙ (first_rest w w s).raises)
-            (noted_after state.journal.raises worked.journal.raises now m.shows.raises t.shows.raises state.waiting.items grown noted);
+            (noted_after state.journal.raises worked.journal.raises now m.shows.raises t.shows.raises state.waiting.items grown all.noted);
       }

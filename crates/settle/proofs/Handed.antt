@@ -15,7 +15,7 @@ use Rattle.bank_worker.specs.Views.{Divides, desk_at, desks_held}
 use Rattle.bank_worker.proofs.Manned.{desk_is}
 use Rattle.settle.specs.Between.{IsBetween, opened_worker, opened_workers, without_first}
 use Rattle.settle.specs.Calls.{AllCalledOrAtRest, AreApart, OthersAreAtRest}
-use Rattle.settle.specs.Rounds.{AreReady, IsReady, no_worker, worker_at}
+use Rattle.settle.specs.Rounds.{AreReadyWorkers, IsReadyWorker, no_worker, worker_at}
 
 -- the master that handed out n seats shows what it showed, but for its banks and seats
 pub record IsRest (n : ℕ) (s t : Shown) : Type 0 where
@@ -71,10 +71,10 @@ pub length-opened_workers : (w : ℕ) (table : Place) (s : Shown) (n : ℕ) → 
 length-opened_workers w table s n = length-tabled n (opened_worker w table s)
 
 -- each is ready for its round
-pub opened_workers_ready : (board : BoardView) (net : Net) (w : ℕ) (s : Shown) (n : ℕ) → net ≡ board.net → IsBetween net s → AreReady board (opened_workers w board.table s n)
-opened_workers_ready board net w s n here h = All-from_get_or (IsReady board) (opened_workers w board.table s n) no_worker (λ i li.
+pub opened_workers_ready : (board : BoardView) (net : Net) (w : ℕ) (s : Shown) (n : ℕ) → net ≡ board.net → IsBetween net s → AreReadyWorkers board (opened_workers w board.table s n)
+opened_workers_ready board net w s n here h = All-from_get_or (IsReadyWorker board) (opened_workers w board.table s n) no_worker (λ i li.
     let lt : i < n = omega (arith, li, length-opened_workers w board.table s n) in
-    subst (IsReady board) (sym (opened_worker_at w board.table s n i lt)) (record {
+    subst (IsReadyWorker board) (sym (opened_worker_at w board.table s n i lt)) (record {
       at = (refl, h.net_is ∙ here);
       visits = omega arith;
       no_rings = handed_quiet net w i s h;

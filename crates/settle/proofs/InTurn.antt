@@ -6,7 +6,7 @@ use Rattle.pay_words.specs.Views.{BoardView}
 use Rattle.bank_worker.specs.Called.{AreCalledOrAtRest, KeepsOthers}
 use Rattle.bank_worker.specs.Views.{WorkerView}
 use Rattle.settle.specs.Calls.{AreApart}
-use Rattle.settle.specs.Rounds.{AreReady, AreRounded, IsReady, no_worker, worker_at}
+use Rattle.settle.specs.Rounds.{AreReadyWorkers, AreRounded, IsReadyWorker, no_worker, worker_at}
 use Rattle.settle.proofs.Joined.{rounded_append, rounded_one}
 use Rattle.bank_worker.specs.Grows.{MakesRound}
 use Rattle.bank_worker.specs.declared.visit.Visit.TheVariants.{Raised}
@@ -24,8 +24,8 @@ pub turn_of : (sweeps units : ℕ) (olds news : List WorkerView) (n : ℕ) (call
 turn_of sweeps units olds news n called d lt h = get_or_default news n d no_worker (omega (arith, lt, h.as_many)) ∙ h.left n (omega arith)
 
 -- so that worker may make its round, and each of its banks is called, or it is at rest
-pub turn_ready : (board : BoardView) (sweeps units : ℕ) (olds news : List WorkerView) (n : ℕ) (called : List ℕ) (d : WorkerView) → n < length olds → AreReady board olds → TurnTo sweeps units olds news n called
-    → IsReady board (get_or news n d) × AreCalledOrAtRest called (get_or news n d).seat.shows (get_or news n d).desks
+pub turn_ready : (board : BoardView) (sweeps units : ℕ) (olds news : List WorkerView) (n : ℕ) (called : List ℕ) (d : WorkerView) → n < length olds → AreReadyWorkers board olds → TurnTo sweeps units olds news n called
+    → IsReadyWorker board (get_or news n d) × AreCalledOrAtRest called (get_or news n d).seat.shows (get_or news n d).desks
 turn_ready board sweeps units olds news n called d lt ready h =
     rw (turn_of sweeps units olds news n called d lt h) (ready n no_worker lt, h.waiting n (omega arith) lt)
 

@@ -10,7 +10,7 @@ use Rattle.pay_words.specs.declared.view.Shown.{Shown}
 use Rattle.pay_words.specs.Traces.{start_of}
 use Rattle.pay_words.specs.Views.{opening}
 use Rattle.bank_worker.specs.Views.{WorkerView}
-use Rattle.settle.specs.Between.{IsRoundByVisits, opened_workers, raises_of_all}
+use Rattle.settle.specs.Between.{IsRoundByVisits, opened_workers, raised_by_all}
 use Rattle.settle.specs.Drives.{AreRoundsFrom}
 use Rattle.settle.specs.Made.{AreMadeByBells, IsAllByBells, IsJournalByBells, WorkerRound, raises_in, worker_rounds, workers_of, workers_of_run}
 use Rattle.settle.specs.Rounds.{worker_at}
@@ -26,7 +26,7 @@ visits_in xs = sum_by (λ w. w.new.visits) xs
 -- these are the workers of one round, as they ended
 record AreOf (ws : List WorkerView) (xs : List WorkerRound) : Type 0 where
   by_bells : All IsAllByBells xs
-  raises : raises_in xs ≡ raises_of_all ws
+  raises : raises_in xs ≡ raised_by_all ws
   visits : visits_in xs ≡ sum_by (λ w. w.visits) ws
   as_many : length xs ≡ length ws
 

@@ -19,7 +19,7 @@ use Rattle.bank_worker.proofs.Manned.{few_desks}
 use Rattle.bank_worker.proofs.Sweeping.{divides_kept, few_in_all, paid_by_kept}
 use mathlib.Core.Logic.{dite}
 use native.Mathlib.Decide.{ℕ_discrete}
-use Rattle.settle.specs.Between.{AreOfBoard, IsBack, IsBetween, IsRoundOf, opened_worker, opened_workers, raises_by, raises_of_all, shown_by, without_first}
+use Rattle.settle.specs.Between.{AreOfBoard, IsBack, IsBetween, IsRoundOf, opened_worker, opened_workers, raises_by, raised_by_all, shown_by, without_first}
 use Rattle.settle.specs.Calls.{HaveCalledFrom, OthersAreAtRest}
 use Rattle.settle.specs.Rounds.{AreRounded, MadeRound, no_worker, paid_by_worker, worker_at}
 use Rattle.std.specs.List.{range_with_len}
@@ -47,10 +47,10 @@ lists_equal_sums d f (x ∷ xs) [] l h = absurd (omega (arith, l))
 lists_equal_sums d f (x ∷ xs) (y ∷ ys) l h = omega (arith, sum_by-cons f x xs, sum_by-cons f y ys, h 0 (omega arith), lists_equal_sums d f xs ys (omega (arith, l)) (λ k lk. h (suc k) (omega (arith, lk))))
 
 -- how many raises there are of all workers
-length-raises_of_all : (ws : List WorkerView) → length (raises_of_all ws) ≡ sum_by raises_by ws
-length-raises_of_all [] = refl
-length-raises_of_all (w ∷ ws) = omega
-    (arith, length-append (raises_of_all ws) w.seat.shows.raises, sum_by-cons raises_by w ws, length-raises_of_all ws)
+length-raised_by_all : (ws : List WorkerView) → length (raised_by_all ws) ≡ sum_by raises_by ws
+length-raised_by_all [] = refl
+length-raised_by_all (w ∷ ws) = omega
+    (arith, length-append (raised_by_all ws) w.seat.shows.raises, sum_by-cons raises_by w ws, length-raised_by_all ws)
 
 module _ (board : BoardView) (net : Net) (s : Shown) (w sweeps n : ℕ) (news : List WorkerView) (here : net ≡ board.net) (workers : w ≡ board.table.workers) (some : 1 ≤ w) (few_sweeps : sweeps ≤ 1000)
     (between : IsBetween net s) (rounded : AreRounded sweeps n (opened_workers w board.table s w) news) where
@@ -269,12 +269,12 @@ module _ (board : BoardView) (net : Net) (s : Shown) (w sweeps n : ℕ) (news : 
 
     -- the round, where the master shows so many takes and the workers' raises more, and nothing above the least payments
     pub round_is : (visits : ℕ) → m ≡ without_first w w s → t.taken ≡ m.taken + visits → visits ≡ sum_by (λ (k : WorkerView). k.visits) news
-        → t.raises ≡ m.raises ++ raises_of_all news
+        → t.raises ≡ m.raises ++ raised_by_all news
         → IsAtMost t.paid (least t.net) → IsAtMost t.sights (least t.net) → IsRoundOf net (record { workers = w; sweeps = sweeps }) n visits s t
     round_is visits is taken in_all made paid_low sights_low =
         let rest = subst (IsRest w s) (sym is) (first_rest w w s) in
         let many : length t.raises ≡ length m.raises + sum_by raises_by news = omega
-        (arith, ap length made, length-append m.raises (raises_of_all news), length-raises_of_all news) in
+        (arith, ap length made, length-append m.raises (raised_by_all news), length-raised_by_all news) in
         record {
           grown = record {
             net = back'.net_is ∙ sym between.net_is;
@@ -295,7 +295,7 @@ module _ (board : BoardView) (net : Net) (s : Shown) (w sweeps n : ℕ) (news : 
             table = board.table;
             workers = news;
             rounded = rounded;
-            raises = made ∙ ap (λ rs. rs ++ raises_of_all news) rest.raises;
+            raises = made ∙ ap (λ rs. rs ++ raised_by_all news) rest.raises;
             visits_are = in_all;
             back = subst (λ (u : Shown). IsBack w net u news t 0) is back';
           };

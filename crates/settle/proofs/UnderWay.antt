@@ -1,6 +1,7 @@
 -- A run on its way, round by round.
-use Rattle.std.proofs.Common.{◌≡◌, ◌≢◌, ℕ, ◌+◌, ◌<◌, List, [], append-nil, sym, ap, ◌∙◌, subst, true}
+use Rattle.std.proofs.Common.{◌≡◌, ◌≢◌, ℕ, ◌+◌, ◌<◌, List, [], append-nil, sym, ap, subst, true}
 use Rattle.bank_worker.specs.BankSets.{is_in}
+use Rattle.bank_worker.specs.Offices.{OfficeView}
 use Rattle.clr_net.specs.Amounts.{IsAtMost}
 use Rattle.clr_net.specs.Limits.{IsNetwork}
 use Rattle.clr_net.specs.Net.{Net}
@@ -8,15 +9,14 @@ use Rattle.clr_net.specs.declared.TheConstants.{MAX_BANKS}
 use Rattle.clear_core.specs.Clearing.{least}
 use Rattle.clear_core.specs.History.{Kept, ordered}
 use Rattle.clear_core.specs.declared.event.Raise.{Raise}
-use Rattle.pay_words.specs.Traces.{start_of}
-use Rattle.pay_words.specs.Views.{BoardView, SeatView, opening}
+use Rattle.pay_words.specs.Views.{BoardView, SeatView}
 use Rattle.pay_words.specs.declared.view.Shown.{Shown}
 use Rattle.raise_journal.specs.Gathered.{HasGrownBy, HasMerged}
-use Rattle.settle.specs.Asks.{IsReady, IsRoundOn}
+use Rattle.settle.specs.Asks.{IsReady, IsRoundOn, MayBegin}
 use Rattle.settle.specs.Between.{noted_in}
 use Rattle.settle.specs.Calls.{OthersAreAtRest}
 use Rattle.settle.specs.Drives.{IsDriven}
-use Rattle.settle.specs.Offices.{AreOffices}
+use Rattle.settle.specs.Offices.{AreAllOffices}
 use Rattle.settle.specs.declared.plan.Plan.{Plan}
 use Rattle.settle.specs.declared.state.RunState.{RunState}
 use Rattle.settle.proofs.Calling.{all_called}
@@ -29,19 +29,23 @@ pub record IsUnderWay (board : BoardView) (net : Net) (past : List Raise) (plan 
   pub driven : DrivenTo net past plan s master.shows (noted_in state.journal.raises state.waiting.items) rounds visits
 
 -- before the first round
-pub way_begun : (board : BoardView) (net : Net) (past : List Raise) (plan : Plan) (master : SeatView) (state : RunState) → IsNetwork net → master.table ≡ board.table → master.shows ≡ opening net (start_of net past)
+pub way_begun : (board : BoardView) (net : Net) (past : List Raise) (plan : Plan) (master : SeatView) (state : RunState) (os : List OfficeView) → IsNetwork net → MayBegin board net past plan master os
     → IsAtMost master.shows.paid (least master.shows.net) → HasMerged [] state.journal.raises 0 past → state.waiting.items ≡ []
-    → AreOffices net plan.workers plan.workers state.offices.items → ((b : ℕ) → b < MAX_BANKS → is_in state.called b ≡ true)
+    → state.offices.items ≡ os → ((b : ℕ) → b < MAX_BANKS → is_in state.called b ≡ true)
     → IsUnderWay board net past plan master.shows master state 0 0
-way_begun board net past plan master state network at opened below merged none_waits offices called =
+way_begun board net past plan master state os network begin below merged none_waits offices called =
     let s = master.shows in
     let j = state.journal.raises in
-    let low = subst (λ (n : Net). IsAtMost s.paid (least n)) (ap (λ (u : Shown). u.net) opened) below in
+    let low = subst (λ (n : Net). IsAtMost s.paid (least n)) (ap (λ (u : Shown). u.net) begin.opened) below in
     let begun = subst (λ (w : List Kept). HasGrownBy [] (noted_in j w) past) (sym none_waits)
     (subst (λ (rs : List Raise). HasGrownBy [] rs past) (sym (append-nil j)) merged) in
-    let driven = driven_none {net = net} {past = past} {plan = plan} network opened low begun in
+    let driven = driven_none {net = net} {past = past} {plan = plan} network begin.opened low begun in
     record {
-      ready = record { table_is = at; between = driven.between; offices = offices };
+      ready = record {
+        table_is = begin.table_is;
+        between = driven.between;
+        offices = subst (AreAllOffices net plan.workers) (sym offices) begin.offices_are;
+      };
       called = all_called net state.called s network called;
       driven = driven;
     }

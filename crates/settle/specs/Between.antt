@@ -99,9 +99,9 @@ pub record IsBack (workers : ℕ) (net : Net) (s : Shown) (ws : List WorkerView)
       → is_marked t.fresh b ≡ is_marked (shown_by workers ws b).fresh b
 
 -- the raises of some workers, those of the last worker first
-abbrev pub raises_of_all : List WorkerView → List Raise
-raises_of_all [] = []
-raises_of_all (w ∷ ws) = raises_of_all ws ++ w.seat.shows.raises
+abbrev pub raised_by_all : List WorkerView → List Raise
+raised_by_all [] = []
+raised_by_all (w ∷ ws) = raised_by_all ws ++ w.seat.shows.raises
 
 -- the workers of a round, from the master that shows s to the one that shows t: each was handed its
 -- seat, and then did nothing but visits to which bells called it; all that was raised they raised,
@@ -111,7 +111,7 @@ pub record IsRoundByVisits (net : Net) (plan : Plan) (units visits : ℕ) (s t :
   pub workers : List WorkerView
   pub rounded : AreRounded plan.sweeps units
       (opened_workers plan.workers table s plan.workers) workers
-  pub raises : t.raises ≡ s.raises ++ raises_of_all workers
+  pub raises : t.raises ≡ s.raises ++ raised_by_all workers
   pub visits_are : visits ≡ sum_by (λ w. w.visits) workers
   pub back : IsBack plan.workers net (without_first plan.workers plan.workers s) workers t 0
 

@@ -28,13 +28,17 @@ pub record AreOffices (net : Net) (workers n : ℕ) (os : List OfficeView) : Typ
   pub as_many : length os ≡ n
   pub each : (k : ℕ) → k < n → Serves net workers (workers - 1 - k) (office_at os k)
 
+-- the offices of all workers, the last worker's first
+abbrev pub AreAllOffices : Net → ℕ → List OfficeView → Type 0
+AreAllOffices net workers os = AreOffices net workers workers os
+
 -- the offices of all workers on another network, which has the same banks but for their cash, in
 -- the same places, and the same debts
 pub record AreOfficesButCash (net : Net) (workers : ℕ) (os : List OfficeView) : Type 0 where
   pub other : Net
   pub banks : map (of_cash 0) net.banks ≡ map (of_cash 0) other.banks
   pub debts : net.debts ≡ other.debts
-  pub offices : AreOffices other workers workers os
+  pub offices : AreAllOffices other workers os
 
 -- the same office, with the cash at its desks that their banks have in this network
 abbrev pub with_cash_of : Net → OfficeView → OfficeView

@@ -7,15 +7,15 @@ use Rattle.bank_worker.specs.Grows.{IsRounded, MAX_VISITS, VisitsByBells}
 use Rattle.bank_worker.specs.Visits.{IsAllCalm, IsSameWorker, MayRest}
 
 -- the worker may make a round on the board
-pub record IsReady (board : BoardView) (w : WorkerView) : Type 0 where
+pub record IsReadyWorker (board : BoardView) (w : WorkerView) : Type 0 where
   pub at : IsAt board w.seat
   pub visits : w.visits ≤ 2 ^ 62
   pub no_rings : OwesNoRing w.seat.shows
   pub calm : IsAllCalm w.seat.shows
   pub rest : MayRest w.seat.shows w.desks
 
-abbrev pub AreReady : BoardView → List WorkerView → Type 0
-AreReady board ws = All (IsReady board) ws
+abbrev pub AreReadyWorkers : BoardView → List WorkerView → Type 0
+AreReadyWorkers board ws = All (IsReadyWorker board) ws
 
 -- a worker that made a round
 pub record MadeRound (sweeps : ℕ) (old new : WorkerView) : Type 0 where

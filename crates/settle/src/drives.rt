@@ -1,10 +1,9 @@
 //! The rounds of a run, until one raises nothing.
 ghost use Rattle.clear_core.specs.History.{ordered};
-ghost use Rattle.pay_words.specs.Traces.{start_of};
-ghost use Rattle.pay_words.specs.Views.{opening};
+ghost use Rattle.settle.specs.Asks.{MayBegin};
 ghost use Rattle.settle.specs.Between.{noted_in};
 ghost use Rattle.settle.specs.Drives.{IsDriven};
-ghost use Rattle.settle.specs.Offices.{AreOffices};
+ghost use Rattle.settle.specs.Offices.{AreAllOffices};
 ghost use Rattle.std.specs.Prelude.{◌≡◌, IfOk, OnOk};
 
 use crate::noting::add_waiting;
@@ -30,14 +29,12 @@ pub(crate) fn drive_on<R: Threads + Sync, G: Gate + Sync>(
     master: &mut PaySeat,
     offices: &mut Vec<Office>,
 ) -> Result<Driven, Mem>
-    requires table { master.old.table ≡ run.now.board.now.table }
-    requires opened { master.old.shows ≡ opening run.now.net.now (start_of run.now.net.now past.now) }
-    requires offices { AreOffices run.now.net.now run.now.engine.now.plan.workers
-        run.now.engine.now.plan.workers offices.old.items }
+    requires begin { MayBegin run.now.board.now run.now.net.now past.now run.now.engine.now.plan
+        master.old offices.old.items }
     ensures table { master.new.table ≡ master.old.table }
     ensures net { master.new.shows.net ≡ run.now.net.now }
-    ensures offices { OnOk result (AreOffices run.now.net.now run.now.engine.now.plan.workers
-        run.now.engine.now.plan.workers offices.new.items) }
+    ensures offices { OnOk result
+        (AreAllOffices run.now.net.now run.now.engine.now.plan.workers offices.new.items) }
     ensures driven { IfOk result (IsDriven run.now.net.now past.now run.now.engine.now.plan
         master.old.shows master.new.shows) }
 {
@@ -72,14 +69,12 @@ pub(crate) fn drive_in_turn<G: Gate>(
     master: &mut PaySeat,
     offices: &mut Vec<Office>,
 ) -> Result<Driven, Mem>
-    requires table { master.old.table ≡ run.now.board.now.table }
-    requires opened { master.old.shows ≡ opening run.now.net.now (start_of run.now.net.now past.now) }
-    requires offices { AreOffices run.now.net.now run.now.engine.now.plan.workers
-        run.now.engine.now.plan.workers offices.old.items }
+    requires begin { MayBegin run.now.board.now run.now.net.now past.now run.now.engine.now.plan
+        master.old offices.old.items }
     ensures table { master.new.table ≡ master.old.table }
     ensures net { master.new.shows.net ≡ run.now.net.now }
-    ensures offices { OnOk result (AreOffices run.now.net.now run.now.engine.now.plan.workers
-        run.now.engine.now.plan.workers offices.new.items) }
+    ensures offices { OnOk result
+        (AreAllOffices run.now.net.now run.now.engine.now.plan.workers offices.new.items) }
     ensures driven { IfOk result (IsDriven run.now.net.now past.now run.now.engine.now.plan
         master.old.shows master.new.shows) }
 {

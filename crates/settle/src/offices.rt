@@ -1,6 +1,6 @@
 //! The offices of the workers of a run.
 ghost use Rattle.clr_net.specs.Limits.{IsNetwork};
-ghost use Rattle.settle.specs.Offices.{AreOffices, Serves, with_cash_of};
+ghost use Rattle.settle.specs.Offices.{AreAllOffices, Serves, with_cash_of};
 ghost use Rattle.std.specs.Prelude.{◌≡◌, ◌-◌, ◌<◌, ◌≤◌, All, IfOk, Ok, length, map};
 
 use bank_worker::Office;
@@ -14,7 +14,7 @@ pub(crate) const MANY_DEBTS: u32 = 100_000;
 /// The offices of all workers, the last worker's first. `Mem` is want of memory.
 pub fn offices_of(alloc: Global, net: &Network, workers: u32) -> Result<Vec<Office>, Mem>
     requires workers { 1 ≤ workers }
-    ensures { IfOk result (λ os. AreOffices net.now workers workers os.items) }
+    ensures { IfOk result (λ os. AreAllOffices net.now workers os.items) }
 {
     let mut offices = Vec::with_capacity(alloc, workers as usize)?;
     for made in 0..workers {
@@ -32,7 +32,7 @@ pub fn offices_beside<R: Threads + Sync>(
     workers: u32,
 ) -> Result<Vec<Office>, Mem>
     requires workers { 1 ≤ workers }
-    ensures { IfOk result (λ os. AreOffices net.now workers workers os.items) }
+    ensures { IfOk result (λ os. AreAllOffices net.now workers os.items) }
 {
     if net.debts() < MANY_DEBTS {
         return offices_of(alloc, net, workers);

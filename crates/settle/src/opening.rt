@@ -2,7 +2,7 @@
 ghost use Rattle.clr_net.specs.Net.{Net};
 ghost use Rattle.pay_words.specs.Traces.{start_of};
 ghost use Rattle.pay_words.specs.Words.{unpaid as unpaid_word};
-ghost use Rattle.settle.specs.Offices.{AreOffices};
+ghost use Rattle.settle.specs.Offices.{AreAllOffices};
 ghost use Rattle.settle.specs.Openings.{IsOpened};
 ghost use Rattle.settle.specs.Runs.{CanGoOn};
 ghost use Rattle.std.specs.Prelude.{◌≡◌, ◌<◌, ◌≤◌, All, IfOk, length, replicate};
@@ -36,7 +36,7 @@ pub(crate) fn lay_out<R: Threads + Sync>(
 ) -> Result<(Vec<Office>, Opened), Mem>
     requires workers { (1 ≤ workers) × (workers ≤ 64) }
     requires past { CanGoOn net.now past.now }
-    ensures offices { IfOk result (λ r. AreOffices net.now workers workers r.0.items) }
+    ensures offices { IfOk result (λ r. AreAllOffices net.now workers r.0.items) }
     ensures opened { IfOk result (λ r. IsOpened net.now workers past.now r.1) }
 {
     if workers == 1 || net.debts() < MANY_DEBTS {
@@ -46,7 +46,7 @@ pub(crate) fn lay_out<R: Threads + Sync>(
     }
     let offices = move || -> Result<Vec<Office>, Mem>
         requires { IsSync R.row × (1 ≤ workers) }
-        ensures { IfOk result (λ os. AreOffices net.entry.now workers workers os.items) }
+        ensures { IfOk result (λ os. AreAllOffices net.entry.now workers os.items) }
     { offices_beside(rt, alloc, net, workers) };
     let board = move || -> Result<Opened, Mem>
         requires { (1 ≤ workers) × (workers ≤ 64) × CanGoOn net.now past.now }

@@ -1,5 +1,5 @@
 ghost use Rattle.pay_words.specs.Ends.{values};
-ghost use Rattle.settle.specs.Offices.{AreOffices, AreOfficesButCash};
+ghost use Rattle.settle.specs.Offices.{AreAllOffices, AreOfficesButCash};
 ghost use Rattle.settle.specs.Openings.{HasEnded};
 ghost use Rattle.settle.specs.Runs.{CanGoOn, IsRecordOf, IsSettled, IsWithin};
 ghost use Rattle.std.specs.Prelude.{◌≡◌, [], IfOk, OnOk, length};
@@ -74,7 +74,7 @@ pub fn settle_alone<G: Gate>(
     ensures bounds { IfOk result (λ s.
         IsWithin net engine.now.plan s.rounds s.visits (length s.sealed.journal)) }
     ensures offices { OnOk result
-        (AreOffices net engine.now.plan.workers engine.now.plan.workers offices.new.items) }
+        (AreAllOffices net engine.now.plan.workers offices.new.items) }
 {
     move_offices(offices.as_mut_slice(), &net);
     let opened = open(engine.alloc, &net, engine.plan.workers, &[])?;

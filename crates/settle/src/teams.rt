@@ -1,12 +1,11 @@
 ghost use Rattle.clr_net.specs.Limits.{IsNetwork};
 ghost use Rattle.pay_words.specs.Views.{IsAt};
 ghost use Rattle.pay_words.specs.declared.TheConstants.{MAX_SEATS};
-ghost use Rattle.settle.specs.Asks.{IsReady, IsRoundOn};
-ghost use Rattle.settle.specs.Between.{AreOfBoard, HaveGrownAlike, IsBack, IsBetween};
-ghost use Rattle.settle.specs.Between.{noted_in, opened_workers, raises_of_all, without_first};
-ghost use Rattle.settle.specs.Calls.{HaveCalledFrom, OthersAreAtRest};
-ghost use Rattle.settle.specs.Offices.{AreOffices};
-ghost use Rattle.std.specs.Prelude.{◌≡◌, ◌+◌, ◌++◌, ◌<◌, ◌≤◌, [], IfOk, OnOk};
+ghost use Rattle.settle.specs.Asks.{AreTakenBack, IsReady, IsRoundOn};
+ghost use Rattle.settle.specs.Between.{AreOfBoard, IsBetween, opened_workers, without_first};
+ghost use Rattle.settle.specs.Calls.{OthersAreAtRest};
+ghost use Rattle.settle.specs.Offices.{AreAllOffices};
+ghost use Rattle.std.specs.Prelude.{◌≡◌, ◌+◌, ◌<◌, ◌≤◌, [], IfOk, OnOk};
 ghost use Rattle.std.specs.Prelude.{length, sum_by, true, vec_len};
 
 use crate::noting::note;
@@ -28,8 +27,8 @@ fn open_workers<G: Gate>(
     master: &mut PaySeat,
     offices: &mut Vec<Office>,
 ) -> Result<Vec<Worker>, Mem>
-    requires offices { AreOffices run.now.net.now run.now.engine.now.plan.workers
-        run.now.engine.now.plan.workers offices.old.items }
+    requires offices { AreAllOffices run.now.net.now run.now.engine.now.plan.workers
+        offices.old.items }
     requires table { master.old.table ≡ run.now.board.now.table }
     requires between { IsBetween run.now.net.now master.old.shows }
     requires seats { master.old.shows.seats + run.now.engine.now.plan.workers < MAX_SEATS }
@@ -72,19 +71,10 @@ fn close_workers<G: Gate>(
     requires of_board { AreOfBoard run.now.board.now workers.items }
     ensures table { master.new.table ≡ master.old.table }
     ensures net { master.new.shows.net ≡ master.old.shows.net }
-    ensures back { OnOk result (IsBack run.now.board.now.table.workers run.now.board.now.net
-        master.old.shows workers.items master.new.shows 0) }
-    ensures noted { OnOk result (HaveGrownAlike state.old.journal.raises []
-        (noted_in state.new.journal.raises state.new.waiting.items)
-        master.old.shows.raises master.new.shows.raises) }
+    ensures back { OnOk result (AreTakenBack run.now.board.now workers.items master.old.shows
+        state.old master.new.shows state.new) }
     ensures visits { IfOk result (λ n. master.new.shows.taken ≡ master.old.shows.taken + n) }
     ensures sum { IfOk result (λ n. n ≡ sum_by (λ w. w.visits) workers.items) }
-    ensures offices { OnOk result (AreOffices run.now.board.now.net run.now.board.now.table.workers
-        run.now.board.now.table.workers state.new.offices.items) }
-    ensures made { OnOk result (master.new.shows.raises
-        ≡ master.old.shows.raises ++ raises_of_all workers.items) }
-    ensures called { OnOk result
-        (HaveCalledFrom 0 run.now.board.now.net state.new.called workers.items) }
 {
     let from = state.journal.as_slice().len();
     let count = workers.len();

@@ -1,7 +1,7 @@
 //! The work of a round, by threads or without them.
 ghost use Rattle.raise_journal.specs.Gathered.{HasGrownBy, raises_of_all};
 ghost use Rattle.settle.specs.Calls.{AllCalledOrAtRest, AreApart};
-ghost use Rattle.settle.specs.Rounds.{AreReady, AreRounded};
+ghost use Rattle.settle.specs.Rounds.{AreReadyWorkers, AreRounded};
 ghost use Rattle.std.specs.Prelude.{◌≡◌, ◌≤◌, [], IfOk, OnOk, length};
 ghost use Rattle.std.specs.Thread.{IsSync};
 
@@ -23,7 +23,7 @@ pub(crate) fn work_beside<R: Threads + Sync, G: Gate + Sync>(
     state: &mut RunState,
 ) -> Result<u64, Mem>
     requires some { length workers.old ≡ run.now.engine.now.plan.workers }
-    requires ready { AreReady run.now.board.now workers.old }
+    requires ready { AreReadyWorkers run.now.board.now workers.old }
     ensures rounded { IfOk result (λ n.
         AreRounded run.now.engine.now.plan.sweeps n workers.old workers.new) }
     ensures grown { OnOk result (HasGrownBy state.old.journal.raises state.new.journal.raises
@@ -48,7 +48,7 @@ fn work_and_add<R: Threads + Sync, G: Gate + Sync>(
     waiting: &mut Vec<Journal>,
 ) -> Result<u64, Mem>
     requires some { length workers.old ≡ run.now.engine.now.plan.workers }
-    requires ready { AreReady run.now.board.now workers.old }
+    requires ready { AreReadyWorkers run.now.board.now workers.old }
     ensures rounded { IfOk result (λ n.
         AreRounded run.now.engine.now.plan.sweeps n workers.old workers.new) }
     ensures grown { OnOk result (HasGrownBy journal.old.raises journal.new.raises
@@ -59,7 +59,7 @@ fn work_and_add<R: Threads + Sync, G: Gate + Sync>(
     let mut round = || -> Result<u64, Mem>
         requires { IsSync R.row × IsSync G.row
             × (length workers.now ≡ run.now.engine.now.plan.workers)
-            × AreReady run.now.board.now workers.now }
+            × AreReadyWorkers run.now.board.now workers.now }
         ensures { IfOk result (λ n. AreRounded run.entry.now.engine.now.plan.sweeps n
             workers.entry.now workers.exit.now) }
     { work(rt, run, workers) };
@@ -81,7 +81,7 @@ pub(crate) fn work_in_turn<G: Gate>(
     state: &mut RunState,
 ) -> Result<u64, Mem>
     requires some { length workers.old ≡ run.now.engine.now.plan.workers }
-    requires ready { AreReady run.now.board.now workers.old }
+    requires ready { AreReadyWorkers run.now.board.now workers.old }
     requires called { AllCalledOrAtRest state.old.called workers.old }
     requires apart { AreApart workers.old }
     ensures rounded { IfOk result (λ n.
@@ -112,7 +112,7 @@ fn work<R: Threads + Sync, G: Gate + Sync>(
     workers: &mut [Worker],
 ) -> Result<u64, Mem>
     requires some { (1 ≤ length workers.old) × (length workers.old ≤ 64) }
-    requires ready { AreReady run.now.board.now workers.old }
+    requires ready { AreReadyWorkers run.now.board.now workers.old }
     ensures rounded { IfOk result (λ n.
         AreRounded run.now.engine.now.plan.sweeps n workers.old workers.new) }
 {
@@ -126,13 +126,13 @@ fn work<R: Threads + Sync, G: Gate + Sync>(
     let (front, back) = workers.split_at_mut(workers.len() / 2);
     let mut low = || -> Result<u64, Mem>
         requires { IsSync R.row × IsSync G.row
-            × (1 ≤ length front.now) × (length front.now ≤ 64) × AreReady run.now.board.now front.now }
+            × (1 ≤ length front.now) × (length front.now ≤ 64) × AreReadyWorkers run.now.board.now front.now }
         ensures { IfOk result (λ n. AreRounded run.entry.now.engine.now.plan.sweeps n
             front.entry.now front.exit.now) }
     { work(rt, run, front) };
     let mut high = || -> Result<u64, Mem>
         requires { IsSync R.row × IsSync G.row
-            × (1 ≤ length back.now) × (length back.now ≤ 64) × AreReady run.now.board.now back.now }
+            × (1 ≤ length back.now) × (length back.now ≤ 64) × AreReadyWorkers run.now.board.now back.now }
         ensures { IfOk result (λ n. AreRounded run.entry.now.engine.now.plan.sweeps n
             back.entry.now back.exit.now) }
     { work(rt, run, back) };

@@ -1,6 +1,6 @@
 use Rattle.std.proofs.Common.{refl, sym, ap, ◌∙◌, subst, arith}
 use Rattle.pay_words.specs.declared.view.Shown.{Shown}
-use Rattle.settle.specs.Offices.{AreOffices}
+use Rattle.settle.specs.Offices.{AreAllOffices}
 use Rattle.settle.proofs.Driving.{fewer_left, rounds_low, seats_low, visits_low}
 use Rattle.settle.proofs.UnderWay.{way_begun, way_ended, way_more}
 use Rattle.settle.proofs.drives.drive_in_turn.Goals as goal
@@ -8,14 +8,12 @@ use Rattle.settle.proofs.drives.drive_in_turn.Goals as goal
 pub loop-state-init : goal.loop-state-init
 loop-state-init g c =
     let run = c.args.run.now in
-    let w = run.engine.now.plan.workers in
     let state = c.in_ok-state.ensures in
     record {
       table = refl;
-      way = way_begun run.board.now run.net.now c.args.past.now run.engine.now.plan c.args.master.now c.in_ok-state.state
-          c.banks.ensures.network c.requires.table c.requires.opened c.clock.ensures.paid_below_least state.journal state.none_waits
-          (subst (λ os. AreOffices run.net.now w w os) (sym (ap (λ v. v.items) (state.offices ∙ c.replace-held.ensures.value))) c.requires.offices)
-          state.called;
+      way = way_begun run.board.now run.net.now c.args.past.now run.engine.now.plan c.args.master.now c.in_ok-state.state c.args.offices.now.items
+          c.banks.ensures.network c.requires.begin c.clock.ensures.paid_below_least state.journal state.none_waits
+          (ap (λ v. v.items) (state.offices ∙ c.replace-held.ensures.value)) state.called;
     }
 
 pub round_in_turn-requires-clause-seats : goal.round_in_turn-requires-clause-seats
@@ -40,11 +38,10 @@ loop-state-preserved g c = record {
 
 pub returns-clause-driven : goal.returns-clause-driven
 returns-clause-driven g c =
-    way_ended c.loop-state.invariant.way c.in_ok-units.ensures.round c.if-units-eq0.true (ap (λ (u : Shown). u.taken) c.requires.opened)
+    way_ended c.loop-state.invariant.way c.in_ok-units.ensures.round c.if-units-eq0.true (ap (λ (u : Shown). u.taken) c.requires.begin.opened)
     c.in_ok-journal.journal c.in_ok-journal.ensures.journal
 
 pub returns-clause-offices : goal.returns-clause-offices
 returns-clause-offices g c =
     let run = c.args.run.now in
-    let w = run.engine.now.plan.workers in
-    subst (λ os. AreOffices run.net.now w w os) (sym (ap (λ v. v.items) c.left_in.ensures.offices)) c.in_ok-units.ensures.round.ready.offices
+    subst (AreAllOffices run.net.now run.engine.now.plan.workers) (sym (ap (λ v. v.items) c.left_in.ensures.offices)) c.in_ok-units.ensures.round.ready.offices

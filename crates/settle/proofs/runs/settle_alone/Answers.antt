@@ -3,7 +3,7 @@ use Rattle.std.proofs.lemmas.List.{length-map}
 use Rattle.pay_words.proofs.Pasts.{belongs_at_first}
 use Rattle.bank_worker.proofs.Recashed.{written_over}
 use Rattle.settle.specs.Drives.{IsDriven}
-use Rattle.settle.specs.Offices.{AreOffices, AreOfficesButCash, with_cash_of}
+use Rattle.settle.specs.Offices.{AreAllOffices, AreOfficesButCash, with_cash_of}
 use Rattle.settle.proofs.OtherCash.{all_know_banks, are_offices_again}
 use Rattle.settle.proofs.runs.settle_alone.Goals as goal
 
@@ -15,19 +15,23 @@ move_offices-requires g c =
 pub open-requires-clause-past : goal.open-requires-clause-past
 open-requires-clause-past g c = belongs_at_first c.args.net _ refl
 
--- each office has the cash of the network now
-pub drive_in_turn-requires-clause-offices : goal.drive_in_turn-requires-clause-offices
-drive_in_turn-requires-clause-offices g c =
+-- the board has just been opened, and each office has the cash of the network now
+pub drive_in_turn-requires : goal.drive_in_turn-requires
+drive_in_turn-requires g c =
     let net = c.args.net in
     let old = c.args.offices.now in
     let new = c.move_offices.new.offices in
     let made : new ≡ map (with_cash_of net) old.items = c.move_offices.ensures.offices ∙ ap (map (with_cash_of net)) c.as_mut_slice.ensures.value in
     let size : old.len ≡ length new = omega (arith, ap length made, length-map old.items (with_cash_of net), old.ok.0) in
-    subst (AreOffices net c.args.engine.now.plan.workers c.args.engine.now.plan.workers) (sym (written_over old.len new old.items size ∙ made))
-    (are_offices_again net c.args.engine.now.plan.workers old.items c.move_offices.ensures.network c.requires.offices)
-
-pub drive_in_turn-requires-clause-opened : goal.drive_in_turn-requires-clause-opened
-drive_in_turn-requires-clause-opened g c = c.in_ok-opened.ensures.shows
+    record {
+      begin = record {
+        table_is = c.in_ok-opened.ensures.table_is;
+        opened = c.in_ok-opened.ensures.shows;
+        offices_are =
+            subst (AreAllOffices net c.args.engine.now.plan.workers) (sym (written_over old.len new old.items size ∙ made))
+            (are_offices_again net c.args.engine.now.plan.workers old.items c.move_offices.ensures.network c.requires.offices);
+      };
+    }
 
 pub close_run-requires-clause-past : goal.close_run-requires-clause-past
 close_run-requires-clause-past g c = belongs_at_first c.args.net _ refl

@@ -2,8 +2,14 @@ use Rattle.std.proofs.Common.{◌∙◌, subst}
 use Rattle.settle.specs.Drives.{IsDriven}
 use Rattle.settle.proofs.runs.settle_owned.Goals as goal
 
-pub drive_on-requires-clause-opened : goal.drive_on-requires-clause-opened
-drive_on-requires-clause-opened g c κs within = c.in_ok-offices.ensures.opened.shows
+pub drive_on-requires-clause-begin : goal.drive_on-requires-clause-begin
+drive_on-requires-clause-begin g c κs within =
+    let opened = c.in_ok-offices.ensures.opened in
+    record {
+      table_is = opened.table_is;
+      opened = opened.shows;
+      offices_are = c.in_ok-offices.ensures.offices;
+    }
 
 pub close_run-requires-clause-ended : goal.close_run-requires-clause-ended
 close_run-requires-clause-ended g c =

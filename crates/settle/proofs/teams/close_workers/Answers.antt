@@ -4,7 +4,7 @@ use Rattle.std.proofs.lemmas.List.Sums.{sum_by_push}
 use Rattle.pay_words.specs.declared.view.Shown.{Shown}
 use Rattle.pay_words.specs.Views.{rejoined}
 use Rattle.bank_worker.specs.Views.{WorkerView}
-use Rattle.settle.specs.Between.{noted_in, raises_of_all}
+use Rattle.settle.specs.Between.{noted_in, raised_by_all}
 use Rattle.settle.specs.Rounds.{worker_at}
 use Rattle.settle.proofs.Calling.{called_from}
 use Rattle.settle.proofs.OfficeLists.{held_by, office_more, seat_serves}
@@ -48,7 +48,7 @@ loop-worker-init g c = record {
   called = λ i le li. absurd (omega (arith, le, li));
   visits = search rules;
   sum = search rules;
-  made = sym (ap (λ ws. c.args.master.now.shows.raises ++ raises_of_all ws) (drop-length c.args.workers.items) ∙ append-nil c.args.master.now.shows.raises);
+  made = sym (ap (λ ws. c.args.master.now.shows.raises ++ raised_by_all ws) (drop-length c.args.workers.items) ∙ append-nil c.args.master.now.shows.raises);
   low = search rules;
 }
 
@@ -104,13 +104,17 @@ loop-worker-preserved g c =
       low = omega (arith, h.more, inv.low, c.visits-visits.ensures, h.own.few_visits);
     }
 
-pub returns-clause-called : goal.returns-clause-called
-returns-clause-called g c i le li =
-    let none : length c.loop-worker.workers.items ≡ 0 = search rules in
-    c.loop-worker.invariant.called i (omega (arith, none)) li
-
-pub returns-clause-made : goal.returns-clause-made
-returns-clause-made g c =
+pub returns-clause-back : goal.returns-clause-back
+returns-clause-back g c =
     let ws = c.args.workers.items in
+    let k = c.args.run.now.board.now.table.workers in
+    let inv = c.loop-worker.invariant in
     let none : length c.loop-worker.workers.items ≡ 0 = search rules in
-    c.loop-worker.invariant.made ∙ ap (λ n. c.args.master.now.shows.raises ++ raises_of_all (drop n ws)) none
+    let all : k - length c.loop-worker.workers.items ≡ k = omega (arith, none) in
+    record {
+      back = rw none at inv.back;
+      raises = inv.made ∙ ap (λ n. c.args.master.now.shows.raises ++ raised_by_all (drop n ws)) none;
+      noted = inv.noted;
+      called = λ i le li. inv.called i (omega (arith, none)) li;
+      offices = rw all at inv.offices;
+    }

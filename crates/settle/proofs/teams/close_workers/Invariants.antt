@@ -1,6 +1,6 @@
 use Rattle.std.proofs.Common.{◌≡◌, ◌+◌, ◌-◌, ◌*◌, ◌≤◌, ◌++◌, [], drop, length, sum_by}
 use Rattle.bank_worker.specs.Grows.{MAX_VISITS}
-use Rattle.settle.specs.Between.{HaveGrownAlike, IsBack, noted_in, raises_of_all}
+use Rattle.settle.specs.Between.{HaveGrownAlike, IsBack, noted_in, raised_by_all}
 use Rattle.settle.specs.declared.run.Way.TheVariants.{InTurn}
 use Rattle.settle.specs.Calls.{HaveCalledFrom}
 use Rattle.settle.specs.Offices.{AreOffices}
@@ -18,7 +18,7 @@ invariant-loop-worker g l = record {
   called : HaveCalledFrom (length l.workers.items) l.run.board.now.net l.state.called l.fn.workers.items;
   visits : l.master.shows.taken ≡ l.fn.master.shows.taken + l.visits;
   sum : l.visits + sum_by (λ w. w.visits) l.workers.items ≡ sum_by (λ w. w.visits) l.fn.workers.items;
-  made : l.master.shows.raises ≡ l.fn.master.shows.raises ++ raises_of_all (drop (length l.workers.items) l.fn.workers.items);
+  made : l.master.shows.raises ≡ l.fn.master.shows.raises ++ raised_by_all (drop (length l.workers.items) l.fn.workers.items);
   low : l.visits + MAX_VISITS * length l.workers.items ≤ MAX_VISITS * length l.fn.workers.items;
 }
 

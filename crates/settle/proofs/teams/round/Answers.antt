@@ -52,6 +52,6 @@ returns g c =
       round = round_closed run.engine.now.limits run.on_board c.requires.ready
           (all_back run.engine.now.plan.sweeps c.in_ok-units.units c.in_ok-workers.workers _ _ _ c.deref_mut.ensures.value c.in_ok-workers.ensures.opened c.in_ok-units.ensures.rounded)
           c.open_workers.new.master c.close_workers.new.master c.work_beside.new.state c.close_workers.new.state
-          c.in_ok-visits.visits c.in_ok-workers.ensures.rest (table ∙ c.requires.ready.table_is) clock.over closed.back closed.offices closed.called closed.visits closed.sum closed.made
-          clock.paid_below_least clock.sights_below_least c.in_ok-units.ensures.grown closed.noted;
+          c.in_ok-visits.visits c.in_ok-workers.ensures.rest (table ∙ c.requires.ready.table_is) clock.over closed.back closed.visits closed.sum
+          clock.paid_below_least clock.sights_below_least c.in_ok-units.ensures.grown;
     }
