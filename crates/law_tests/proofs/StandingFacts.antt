@@ -1,10 +1,11 @@
 -- What laws on estates, shocks and rescues ask for, met at concrete networks.
 use Rattle.std.proofs.Common.{◌≡◌, ℕ, zero, suc, ◌≤◌, Bool, true, false, ◌==◌, [], ◌∷◌, refl, inl}
-use Rattle.std.proofs.Common.{inr, arith, lit≤, rules, cond}
+use Rattle.std.proofs.Common.{inr, arith, lit≤, cond}
 use Rattle.clr_net.specs.Division.{share_by_from}
 use Rattle.clr_net.specs.Net.{rule_of, outside_of, cash_of}
 use Rattle.clr_net.specs.Samples.{chain}
 use Rattle.rule_unit.specs.Units.{awards_after}
+use Rattle.clear_core.specs.Rounds.{rounds_of}
 use Rattle.clear_core.specs.Clearing.{Clears, NeverFalls, pay, rounds, least, spend}
 use Rattle.cascade.specs.MoreCash.{HasMoreCash}
 use Rattle.cascade.specs.Standings.{health_of}
@@ -81,3 +82,8 @@ passes_on h = elim h [ inl sound ↦ cc | inr little ↦ absurd (omega arith) ]
 pub is_stuck : is_gridlocked (health_of dry_ring (least dry_ring) 0) (wave dry_ring 0) ≡ true
 unfolding awards_after share_by_from pay rounds
 is_stuck = refl
+
+-- B of the chain enters the second round with less than it owes, and the first with all
+pub second_wave : wave chain 1 ≡ 2
+unfolding awards_after share_by_from pay rounds_of
+second_wave = refl

@@ -1,5 +1,5 @@
 -- What laws on cycles, files, journals and awards ask for, met at concrete networks.
-use Rattle.std.proofs.Common.{◌≡◌, ℕ, zero, suc, ◌<◌, ◌≤◌, true, false, [], ◌∷◌, get_or, refl}
+use Rattle.std.proofs.Common.{◌≡◌, ℕ, zero, suc, ◌<◌, true, false, [], ◌∷◌, get_or, refl}
 use Rattle.std.proofs.Common.{arith, lit<, lit≤, rules}
 use Rattle.std.specs.Prelude.{slice_index}
 use Rattle.clr_net.specs.Amounts.{IsAtMost}

@@ -1,15 +1,14 @@
+//! Laws on events, histories and rounds of payments, at the chain.
 ghost use Rattle.clr_net.specs.Amounts.{IsAtMost};
 ghost use Rattle.clr_net.specs.Samples.{chain};
 ghost use Rattle.clr_net.specs.Net.{row};
-ghost use Rattle.clr_net.specs.Limits.{IsNetwork};
 ghost use Rattle.clear_core.specs.Clearing.{least, pay};
 ghost use Rattle.clear_core.specs.History.{IsTraced, Stands, ordered, replayed};
 ghost use Rattle.clear_core.specs.Process.{IsBelowLeast, after, opening};
 ghost use Rattle.clear_core.specs.Rounds.{rounds_of};
 ghost use Rattle.pay_words.specs.Belongs.{Belongs};
 ghost use Rattle.pay_words.specs.Traces.{start_of};
-ghost use Rattle.law_tests.specs.Nets.{events, richer, two, two_ordered, raise, dry_ring};
-ghost use Rattle.law_tests.specs.Nets.{cycle};
+ghost use Rattle.law_tests.specs.Nets.{events, richer, two, two_ordered, raise};
 ghost use Rattle.std.specs.Prelude.{◌≡◌, ◌++◌, ◌∷◌, [], ◌≤◌, slice_index, sum_by};
 
 // Events that are legal where they stand leave payments below the least.
@@ -86,25 +85,4 @@ pub fn journal_of_two_belongs()
 {
     clear_core::laws::ordered_history_stands();
     pay_words::laws::lawful_journal_belongs();
-}
-
-// The chain is what is read of its files, and so a network.
-pub fn chain_is_network()
-    ensures { IsNetwork chain }
-{
-    net_csv::laws::reading_gives_a_network();
-}
-
-// So is a ring without cash.
-pub fn dry_ring_is_network()
-    ensures { IsNetwork dry_ring }
-{
-    net_csv::laws::reading_gives_a_network();
-}
-
-// And so is a cycle of three debts.
-pub fn cycle_is_network()
-    ensures { IsNetwork cycle }
-{
-    net_csv::laws::reading_gives_a_network();
 }

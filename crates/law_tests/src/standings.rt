@@ -1,19 +1,24 @@
+//! Laws on how banks stand, and on more cash, shocks, ruins, costs and rescues, at the chain, at a
+//! richer one and at a ring without cash.
 ghost use Rattle.clr_net.specs.Samples.{chain};
 ghost use Rattle.cascade.specs.MoreCash.{NobodyLoses};
 ghost use Rattle.cascade.specs.Ruin.{CostsItsCash};
 ghost use Rattle.cascade.specs.Standings.{AddsUp, equity, health_of};
 ghost use Rattle.cascade.specs.declared.standing.Health.TheVariants as health;
 ghost use Rattle.clear_core.specs.Clearing.{least, spend};
+ghost use Rattle.clr_net.specs.Amounts.{IsAtMost};
 ghost use Rattle.costs.specs.CostStandings.{CostAddsUp};
 ghost use Rattle.impact.specs.Impact.{lost_by_others};
 ghost use Rattle.cascade.specs.Ruin.{kept_less};
 ghost use Rattle.rescue.specs.Rescue.{added, Saves};
+ghost use Rattle.stress.specs.Milder.{IsSoundAfter};
 ghost use Rattle.stress.specs.Shocks.{shocked};
+ghost use Rattle.upper.specs.Bounds.{IsWave};
 ghost use Rattle.upper.specs.Greatest.{IsGreatestBy, greatest_by};
 ghost use Rattle.law_tests.specs.Nets.{richer, dry_ring, loss, scenario};
 ghost use Rattle.std.specs.Prelude.{◌≡◌, ◌≢◌, ◌+◌, ◌≤◌, ◌∷◌, [], true, sum};
 
-use crate::process::{chain_is_network, dry_ring_is_network};
+use crate::networks::{chain_is_network, dry_ring_is_network};
 
 // Estates and equities add up to all cash.
 pub fn chain_adds_up()
@@ -101,4 +106,26 @@ pub fn ruin_comes_to_seven()
 {
     chain_is_network();
     impact::laws::own_loss_and_that_of_others_are_the_cash();
+}
+
+// A bank that is in default as it is is not sound after no cut either.
+pub fn the_first_is_not_sound_uncut()
+    ensures { IsSoundAfter chain 0 0 → ⊥ }
+{
+    chain_is_network();
+    stress::laws::sound_exactly_below_the_breaking_cut();
+}
+
+// A bank whose debtor falls short in the first round falls short in the second.
+pub fn second_falls_in_the_second_round()
+    ensures { IsWave chain 1 2 }
+{
+    upper::laws::wave_is_the_first_short_round();
+}
+
+// Where default keeps half, nobody pays more than where it costs nothing.
+pub fn halved_pays_no_more()
+    ensures { IsAtMost (3 ∷ 2 ∷ []) (7 ∷ 8 ∷ []) }
+{
+    costs::laws::more_lost_pays_no_more();
 }

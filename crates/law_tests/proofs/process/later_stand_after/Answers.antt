@@ -1,4 +1,4 @@
-use Rattle.std.proofs.Common.{[], ◌∷◌, refl, lit<, lit≤, sym, ◌∙◌}
+use Rattle.std.proofs.Common.{[], ◌∷◌}
 use Rattle.law_tests.specs.Nets.{two, raise}
 use Rattle.law_tests.proofs.ProcessFacts.{later}
 use Rattle.law_tests.proofs.process.later_stand_after.Goals as goal

@@ -1,4 +1,4 @@
-use Rattle.std.proofs.Common.{[], ◌∷◌, refl, lit<, lit≤, sym, ◌∙◌}
+use Rattle.std.proofs.Common.{[], ◌∷◌, refl}
 use Rattle.clr_net.specs.Samples.{chain}
 use Rattle.law_tests.proofs.ProcessFacts.{all_below, all_covered}
 use Rattle.law_tests.proofs.process.nothing_left_is_least.Goals as goal

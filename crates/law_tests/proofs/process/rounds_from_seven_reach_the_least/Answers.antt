@@ -1,4 +1,4 @@
-use Rattle.std.proofs.Common.{[], ◌∷◌, refl, lit<, lit≤, sym, ◌∙◌}
+use Rattle.std.proofs.Common.{[], ◌∷◌, refl, lit≤, ◌∙◌}
 use Rattle.clr_net.specs.Samples.{chain}
 use Rattle.clear_core.specs.Cases.{chain_least}
 use Rattle.law_tests.proofs.ProcessFacts.{seven_rises, seven_below}

@@ -1,4 +1,4 @@
-use Rattle.std.proofs.Common.{[], ◌∷◌, refl, lit<, lit≤, sym, ◌∙◌}
+use Rattle.std.proofs.Common.{[], ◌∷◌}
 use Rattle.clr_net.specs.Samples.{chain}
 use Rattle.net_csv.specs.Cases.{chain_banks, chain_debts, chain_reads}
 use Rattle.cascade.specs.Cases.{chain_clears}

@@ -1,4 +1,4 @@
-use Rattle.std.proofs.Common.{[], ◌∷◌, refl, lit<, lit≤, sym, ◌∙◌}
+use Rattle.std.proofs.Common.{lit≤}
 use Rattle.clr_net.specs.Samples.{chain}
 use Rattle.law_tests.proofs.StandingFacts.{one_saves}
 use Rattle.law_tests.proofs.standings.a_sum_saves_and_a_greater_too.Goals as goal

@@ -1,4 +1,4 @@
-use Rattle.std.proofs.Common.{[], ◌∷◌, refl, lit<, lit≤, sym, ◌∙◌}
+use Rattle.std.proofs.Common.{[], ◌∷◌}
 use Rattle.clr_net.specs.Samples.{chain}
 use Rattle.cascade.specs.Cases.{chain_clears}
 use Rattle.law_tests.proofs.standings.chain_adds_up.Goals as goal

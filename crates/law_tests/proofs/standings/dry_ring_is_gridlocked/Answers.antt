@@ -1,4 +1,3 @@
-use Rattle.std.proofs.Common.{[], ◌∷◌, refl, lit<, lit≤, sym, ◌∙◌}
 use Rattle.law_tests.specs.Nets.{dry_ring}
 use Rattle.law_tests.proofs.StandingFacts.{is_stuck}
 use Rattle.law_tests.proofs.standings.dry_ring_is_gridlocked.Goals as goal

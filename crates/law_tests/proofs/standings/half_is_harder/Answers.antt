@@ -1,4 +1,4 @@
-use Rattle.std.proofs.Common.{[], ◌∷◌, refl, lit<, lit≤, sym, ◌∙◌}
+use Rattle.std.proofs.Common.{[], ◌∷◌}
 use Rattle.clr_net.specs.Samples.{chain}
 use Rattle.law_tests.specs.Nets.{scenario, loss}
 use Rattle.law_tests.proofs.StandingFacts.{milder}

@@ -1,4 +1,4 @@
-use Rattle.std.proofs.Common.{[], ◌∷◌, refl, lit<, lit≤, sym, ◌∙◌}
+use Rattle.std.proofs.Common.{[], ◌∷◌, lit≤}
 use Rattle.clr_net.specs.Samples.{chain}
 use Rattle.costs.specs.Cases.{chain_halved_clears}
 use Rattle.law_tests.proofs.standings.halved_adds_up.Goals as goal

@@ -1,4 +1,4 @@
-use Rattle.std.proofs.Common.{[], ◌∷◌, refl, lit<, lit≤, sym, ◌∙◌}
+use Rattle.std.proofs.Common.{[], ◌∷◌, lit<}
 use Rattle.law_tests.specs.Nets.{dry_ring}
 use Rattle.law_tests.proofs.StandingFacts.{dry_nothing, dry_all}
 use Rattle.law_tests.proofs.standings.nothing_and_all_leave_the_same.Goals as goal

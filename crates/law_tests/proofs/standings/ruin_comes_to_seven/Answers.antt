@@ -1,4 +1,4 @@
-use Rattle.std.proofs.Common.{[], ◌∷◌, refl, lit<, lit≤, sym, ◌∙◌}
+use Rattle.std.proofs.Common.{lit<}
 use Rattle.clr_net.specs.Samples.{chain}
 use Rattle.law_tests.proofs.standings.ruin_comes_to_seven.Goals as goal
 

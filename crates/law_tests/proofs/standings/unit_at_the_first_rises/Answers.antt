@@ -1,4 +1,4 @@
-use Rattle.std.proofs.Common.{[], ◌∷◌, refl, lit<, lit≤, sym, ◌∙◌}
+use Rattle.std.proofs.Common.{lit<}
 use Rattle.clr_net.specs.Samples.{chain}
 use Rattle.law_tests.proofs.StandingFacts.{passes_on}
 use Rattle.law_tests.proofs.standings.unit_at_the_first_rises.Goals as goal

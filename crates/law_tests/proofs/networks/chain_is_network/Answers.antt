@@ -1,7 +1,7 @@
 use Rattle.clr_net.specs.Samples.{chain}
 use Rattle.net_csv.specs.Cases.{chain_banks, chain_debts, chain_reads}
 use Rattle.net_check.specs.declared.limits.Limits.TheVariants as limits
-use Rattle.law_tests.proofs.process.chain_is_network.Goals as goal
+use Rattle.law_tests.proofs.networks.chain_is_network.Goals as goal
 
 pub returns : goal.returns
 returns c =

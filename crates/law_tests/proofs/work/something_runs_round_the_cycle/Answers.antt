@@ -1,6 +1,0 @@
-use Rattle.std.proofs.Common.{[], ◌∷◌, refl, lit<, lit≤, sym, ◌∙◌}
-use Rattle.law_tests.proofs.WorkFacts.{runs_round}
-use Rattle.law_tests.proofs.work.something_runs_round_the_cycle.Goals as goal
-
-pub returns : goal.returns
-returns c = runs_round
