@@ -327,7 +327,7 @@ class Evidence(EvidenceCase):
         for words in (["init", "-q"], ["add", "."], ["commit", "-qm", "all"]):
             subprocess.run([*git, *words], env=own, check=True)
         commit = subprocess.check_output([*git, "rev-parse", "HEAD"], env=own, encoding="utf-8").strip()
-        ask = [sys.executable, "-B", "-c", "from clearing_tools.evidence import evidence; print(evidence.commit_of())"]
+        ask = [sys.executable, "-B", "-c", "from clearing_tools.evidence import versions; print(versions.commit_of())"]
         # What is written, and whether it is a change: an output of one's own is none, and nor is what a build makes.
         for name, is_change in [
             ("mine.csv", False), ("bin/mine.csv", False), (f"{sources}/out/x", False), (f"{sources}/lib.rt", True),

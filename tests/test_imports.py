@@ -1,15 +1,20 @@
 """The picture of the packages is that of their imports as they are: no ring, and what is to stand alone does."""
 import importlib.util
+import sys
 import unittest
 
-from common import ROOT, tool
+from common import ROOT, Case, tool
+
+sys.path.insert(0, str(ROOT / "python/src"))
+from clearing_tools.evidence import source  # noqa: E402
+from clearing_tools.imports import made_case  # noqa: E402
 
 SPEC = importlib.util.spec_from_file_location("imports", ROOT / "tools/dev/imports.py")
 imports = importlib.util.module_from_spec(SPEC)
 SPEC.loader.exec_module(imports)
 
 
-class Imports(unittest.TestCase):
+class Imports(Case):
     def test_the_picture_is_that_of_the_sources(self):
         drawn = tool("dev/imports.py")
         self.assertEqual((drawn.returncode, drawn.stderr), (0, ""))
@@ -24,6 +29,23 @@ class Imports(unittest.TestCase):
             imports.levels_of({**below, "clearing_tools.runner": {"clearing_tools.files"}})
         self.assertEqual(imports.faults_of({**below, "clearing_tools.evidence.audit": {"clearing_tools.files"}}),
                          ["clearing_tools.evidence.audit imports clearing_tools.files"])
+
+    def test_an_import_by_a_name_is_told(self):
+        self.assertEqual(imports.hidden_in(imports.modules()), [])
+        words = {"importlib.import_module('clearing_tools.cases')": "clearing_tools.cases", "import_module(f'clearing_tools.{kind}')": "f'clearing_tools.{kind}'",
+                 "map(importlib.import_module, ('numpy', 'clearing_client.case'))": "clearing_client.case", "__import__(name)": "name"}
+        for call, name in words.items():
+            path = self.file("late.py", f"def read(name, kind):\n    return {call}\n")
+            self.assertEqual(imports.hidden_in({"clearing_tools.evidence.parts": path}), [f"clearing_tools.evidence.parts imports {name} by its name"])
+        self.assertEqual(imports.hidden_in({"clearing_tools.cases": self.file("late.py", "import importlib\nimportlib.import_module('numpy')\n")}), [])
+
+    def test_what_evidence_has_apart_from_the_importers_is_the_same(self):
+        """Both leave out of a command that is kept what says where to write; the one imports nothing of the other."""
+        self.assertEqual({f"--{word}" for word in made_case.WRITTEN}, {*source.PLACES, *source.FLAGS})
+        for option in [*source.PLACES, *source.FLAGS]:
+            words = [option, "x", "y"] if option in source.PLACES else [option, "y"]
+            self.assertEqual(source.without_places(words), ["y"])
+            self.assertEqual(made_case.command_of("from_list", words, {}, False), ["from_list.py", "y"])
 
     def test_the_path_of_modules_is_set_by_the_files_of_tools_alone(self):
         said = [path for path in imports.SOURCES.rglob("*.py") if "sys.path" in path.read_text(encoding="utf-8")]

@@ -26,7 +26,7 @@ sys.path.insert(0, str(ROOT / "python/src"))
 from clearing_client import Network, errors, request, texts  # noqa: E402
 from clearing_client.results import Stress  # noqa: E402
 from clearing_tools import runner, texts as tool_texts  # noqa: E402
-from clearing_tools.evidence import audit, checking, evidence, parts, shock, source  # noqa: E402
+from clearing_tools.evidence import audit, checking, making, parts, shock, source  # noqa: E402
 
 TWELVE, HUB = ROOT / "examples/twelve-banks", ROOT / "examples/hub"
 REFUSALS = (errors.ClearingError, runner.ToolError, audit.RefusedError, shock.ScenarioError, parts.NoRoomError)
@@ -464,7 +464,7 @@ class Folders(Reader):
         words = types.SimpleNamespace(folder=str(self.folder / "evidence"), banks=str(HUB / "banks.csv"), debts=str(HUB / "debts.csv"), scenarios=None, limits=None, bank="South",
                                       source=None, changes=None, case=None)
         with contextlib.redirect_stdout(io.TextIOWrapper(io.BytesIO())):
-            evidence.make(words)
+            making.make(words)
         folder = self.folder / "evidence"
         self.network = audit.read_network((folder / "inputs/banks.csv").read_bytes(), (folder / "inputs/debts.csv").read_bytes())
         return {str(path.relative_to(folder)): path.read_bytes() for path in folder.rglob("*") if path.is_file() and path.name != "SHA256SUMS"}

@@ -29,13 +29,26 @@ ALONE: Dict[str, Set[str]] = {
     EVIDENCE + "source": {EVIDENCE + "confined", EVIDENCE + "parts", "clearing_tools.runner"},
     EVIDENCE + "checking": {EVIDENCE + each for each in ("audit", "parts", "shock", "source")}
     | {"clearing_tools.runner"},
-    EVIDENCE + "evidence": {EVIDENCE + each for each in ("audit", "checking", "parts", "shock", "source")}
-    | {"clearing_tools.files", "clearing_tools.runner"},
+    EVIDENCE + "versions": {EVIDENCE + "parts", "clearing_tools.runner"},
+    EVIDENCE + "evidence": {EVIDENCE + each for each in ("audit", "checking", "making")} | {"clearing_tools.runner"},
+    # What makes an evidence reads a case as all tools read it; what checks one does not.
+    EVIDENCE + "making": {EVIDENCE + each for each in ("audit", "parts", "shock", "source", "versions")}
+    | {"clearing_tools.cases", "clearing_tools.files", "clearing_tools.runner"}
+    | {"clearing_client.case", "clearing_client.errors"},
     "clearing_tools.files": {"clearing_tools.runner"},
     "clearing_tools.runner": {"clearing_tools.finding", "clearing_tools.running", "clearing_tools.saying"},
     "clearing_tools.running": {"clearing_tools.finding", "clearing_tools.saying"},
     "clearing_tools.finding": {"clearing_tools.saying"},
     "clearing_tools.saying": set(),
+}
+# What modules import by `import_module`, as it is written there: of the packages what no line of the picture shows, and
+# names that are computed. No other module may do so.
+BY_NAME: Dict[str, Set[str]] = {
+    EVIDENCE + "confined": {"f'clearing_tools.imports.{TOOLS[words[0]]}'", "library"},
+    "clearing_client.errors": {"name"},
+    "clearing_client.sheets": {
+        "f'clearing_tools.imports.{MODULES[kind]}'", "clearing_tools.cli", "clearing_tools.runner"
+    },
 }
 BOX, TALL, GAP, ROW, LEFT, MOST = 132, 24, 10, 62, 20, 9
 FILLS = {"clearing_client": "#e4ecf4", "clearing_tools": "#f7e6b0", "evidence": "#dcefdc"}
@@ -71,6 +84,28 @@ def imported_by(name: str, path: pathlib.Path, known: Set[str]) -> Set[str]:
     return (found & known) - {name}
 
 
+def is_importer(node: ast.expr) -> bool:
+    """Whether something is a function that imports by a name."""
+    return ast.unparse(node).rpartition(".")[2] in ("import_module", "__import__")
+
+
+def imported_by_name(path: pathlib.Path) -> Set[str]:
+    """What a file imports by a name, as it is written there, but for other libraries."""
+    found: Set[str] = set()
+    for node in ast.walk(ast.parse(path.read_text(encoding="utf-8"))):
+        names: List[ast.expr] = []
+        if isinstance(node, ast.Call) and is_importer(node.func):
+            names = node.args[:1]
+        elif isinstance(node, ast.Call) and any(map(is_importer, node.args)):
+            others = [each for each in node.args if not is_importer(each)]
+            names = [one for each in others for one in (each.elts if isinstance(each, ast.Tuple) else [each])]
+        for name in names:
+            said = name.value if isinstance(name, ast.Constant) else ast.unparse(name)
+            if not isinstance(name, ast.Constant) or str(said).partition(".")[0] in FILLS:
+                found.add(str(said))
+    return found
+
+
 def graph() -> Dict[str, Set[str]]:
     """What each module imports."""
     files = modules()
@@ -95,6 +130,12 @@ def levels_of(below: Graph) -> Dict[str, int]:
 def faults_of(below: Graph) -> List[str]:
     """The modules that are to stand alone, and do not."""
     return [f"{name} imports {other}" for name, may in ALONE.items() for other in sorted(below.get(name, set()) - may)]
+
+
+def hidden_in(files: Mapping[str, pathlib.Path]) -> List[str]:
+    """The modules that import by a name what they are not listed to."""
+    found = {name: imported_by_name(path) - BY_NAME.get(name, set()) for name, path in files.items()}
+    return [f"{name} imports {other} by its name" for name, others in found.items() for other in sorted(others)]
 
 
 def reached_by(below: Graph, names: Collection[str]) -> Set[str]:
@@ -158,7 +199,7 @@ def main() -> None:
     """Prints the picture, or ends with what is wrong with the imports."""
     argparse.ArgumentParser(description=__doc__, formatter_class=argparse.RawDescriptionHelpFormatter).parse_args()
     below = graph()
-    faults = faults_of(below)
+    faults = [*faults_of(below), *hidden_in(modules())]
     if faults:
         sys.exit("imports.py: " + "; ".join(faults))
     with open(1, "w", encoding="utf-8", closefd=False) as output:

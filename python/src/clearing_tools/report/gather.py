@@ -54,7 +54,7 @@ from clearing_client.results import Verdict as Judged
 
 from .. import cases, cli, files, labels, texts
 from ..drawing.stress_map import read_stress
-from ..evidence import evidence
+from ..evidence import versions
 from ..fullnames import add_labels
 from ..money import add_money
 from ..runner import ToolError, command, printed_by, seen, tool_name, version, work_folder
@@ -98,7 +98,7 @@ def evidence_of(program: Program, inputs: Sequence[Given], verdict: Verdict) -> 
     rows += [("made for a question", path.name, f"{path.stat().st_size:,}", sum_of(path)) for path in program.made]
     return Evidence(
         files=[*rows, ("program", executable.name, f"{executable.stat().st_size:,}", sum_of(executable))],
-        commit=evidence.commit_of() or "not known: no repository",
+        commit=versions.commit_of() or "not known: no repository",
         toolchain=printed_by("rt", "version") or "not known: the command rt is not on the path",
         commands=[(run.words, run.status, sum_of(run.output)) for run in program.commands],
         verdict=verdict,
