@@ -10,8 +10,8 @@ import sys
 
 from common import ROOT, Case, needs_modules, python_with, run_of, tool
 
-from clearing_tools.imports import chain as chains  # noqa: E402
-from clearing_tools.imports import claims as whole_claims  # noqa: E402
+from clearing_tools.imports.networks import chain as chains  # noqa: E402
+from clearing_tools.imports.networks import claims as whole_claims  # noqa: E402
 from clearing_tools.imports import options, summary  # noqa: E402
 from clearing_tools.runner import ToolError  # noqa: E402
 

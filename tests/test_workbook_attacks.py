@@ -9,7 +9,7 @@ import zipfile
 
 from common import Case, needs_packages
 
-from clearing_tools.imports import book_scan, books
+from clearing_tools.imports.books import parts, scan_xlsx, workbook
 from clearing_tools.imports.faults import SheetError
 
 ROWS = [["", "A", "B", "Née", "cash"], ["A", 0, 6, 4.5, 3], ["B", 2, "", 8, "€4"], ["Née", 3, 1, 0, 5]]
@@ -40,7 +40,7 @@ def sharing(data):
         return f' t="s"><v>{len(texts) - 1}</v></c>'
 
     sheet = re.sub(' t="inlineStr"><is><t>([^<]*)</t></is></c>', share, parts[SHEET].decode())
-    shared = f'<sst xmlns="{book_scan.MAIN}">' + "".join(f"<si><t>{text}</t></si>" for text in texts) + "</sst>"
+    shared = f'<sst xmlns="{scan_xlsx.MAIN}">' + "".join(f"<si><t>{text}</t></si>" for text in texts) + "</sst>"
     types = parts["[Content_Types].xml"].decode()
     types = types.replace("</Types>", f'<Override PartName="/{STRINGS}" ContentType="{kind}"/></Types>')
     return of_parts({**parts, SHEET: sheet.encode(), STRINGS: shared.encode(), "[Content_Types].xml": types.encode()})
@@ -90,7 +90,7 @@ class Books(Case):
     def rows(self, data):
         """What is read of a workbook: rows, each cell its text, value, fault and currency."""
         self.place.write_bytes(data)
-        title, rows, hidden = books.rows_of(str(self.place), None, "--sheet")
+        title, rows, hidden = workbook.rows_of(str(self.place), None, "--sheet")
         kept = [
             (number, [(str(cell), getattr(cell, "value", None), getattr(cell, "fault", None)) for cell in row])
             for number, row in rows
@@ -170,7 +170,7 @@ class Unseen(Books):
             (' t="s"><v>0</v>', ' t="s"><v>-1</v>', "has '-1' as the number of a cell"),
             ('r="C2"', 'r="C3"', "has a cell C3 in row 2"),
             (' t="n"><v>6</v>', ' t="inlineStr"><v>6</v>', "of them are read"),
-            (f'xmlns="{book_scan.MAIN}"', f'xmlns="{book_scan.STRICT}"', "is of the form Strict Open XML"),
+            (f'xmlns="{scan_xlsx.MAIN}"', f'xmlns="{parts.STRICT}"', "is of the form Strict Open XML"),
         ]:
             with self.subTest(new=new):
                 self.refuse(self.changed(data, SHEET, old, new), told)

@@ -190,16 +190,16 @@ class Workbooks(Case):
         self.check("name,cash,rule\nA,1,webster\nB,2,webster\n", "debtor,creditor,class,claim\nA,B,1,5\n")
 
     def test_bombs_are_refused(self):
-        from clearing_tools.imports import book_scan
+        from clearing_tools.imports.books import scan
 
         book = self.folder / "m.xlsx"
         written(book, {"S": MATRIX})
         parts = {info.filename: zipfile.ZipFile(book).read(info) for info in zipfile.ZipFile(book).infolist()}
         name = "xl/worksheets/sheet1.xml"
-        deep = b"<x>" * (book_scan.MAX_DEPTH + 1) + b"</x>" * (book_scan.MAX_DEPTH + 1)
+        deep = b"<x>" * (scan.MAX_DEPTH + 1) + b"</x>" * (scan.MAX_DEPTH + 1)
         laughs = b'<!DOCTYPE x [<!ENTITY a "ha"><!ENTITY b "&a;&a;">]><x>&b;</x>'
         for content, told in [
-            (deep, f"nests deeper than {book_scan.MAX_DEPTH}"),
+            (deep, f"nests deeper than {scan.MAX_DEPTH}"),
             (laughs, "declares a type of document"),
             (b"<worksheet>", f"its part {name} is no XML"),
         ]:
@@ -209,7 +209,7 @@ class Workbooks(Case):
             for part, content in parts.items():
                 archive.writestr(part, content)
             with archive.open("xl/media/x.bin", "w", force_zip64=True) as file:
-                for _ in range(book_scan.MAX_UNPACKED // (1 << 24) + 1):
+                for _ in range(scan.MAX_UNPACKED // (1 << 24) + 1):
                     file.write(bytes(1 << 24))
         self.refuse("would unpack to", book)
         self.made_of(book, parts, whole=False)

@@ -9,7 +9,7 @@ from typing import List, Optional, Sequence, Tuple
 from clearing_client.format import RULES
 
 from .. import runner
-from ..imports.books import is_workbook
+from ..imports.books.workbook import is_workbook
 from .records import Record
 
 MOST_HINTS = 1000

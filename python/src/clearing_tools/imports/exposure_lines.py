@@ -3,7 +3,7 @@ from dataclasses import dataclass
 from typing import Callable, Dict, Iterable, List, Optional, Set, Tuple
 
 from .amounts import Amount, is_null, shown
-from .book_rows import Row
+from .books.rows import Row
 from .control import is_called_total
 from .exposure_sheets import ExposureSheets
 from .left_out import LEFT, ask_currencies, currencies_in

@@ -12,8 +12,8 @@ from clearing_client.fields import long_fields
 
 from .. import files
 from ..runner import ToolError
-from . import books
-from .book_rows import Row
+from .books import workbook
+from .books.rows import Row
 
 NumberedRow = Tuple[int, Row]
 """A row with its number as the sheet counts it."""
@@ -79,7 +79,7 @@ def rows_of(name: str, form: Form) -> Rows:
     try:
         with open(name, "rb") as file:
             start = file.read(8)
-        if books.is_workbook(start):
+        if workbook.is_workbook(start):
             rows = book_rows(name, form)
         elif form.title is not None:
             raise ToolError(f"{name} is no workbook, and has no sheet {form.title}")
@@ -95,7 +95,7 @@ def rows_of(name: str, form: Form) -> Rows:
 
 def book_rows(name: str, form: Form) -> Rows:
     """The rows of a sheet of a workbook."""
-    title, found, hidden = books.rows_of(name, form.title, f"{form.before}sheet")
+    title, found, hidden = workbook.rows_of(name, form.title, f"{form.before}sheet")
     above, below = [one for one in found if one[0] <= form.skip], [one for one in found if one[0] > form.skip]
     broken = [number for number, row in below if any("\n" in str(cell) for cell in row)]
     return Rows(name, below, above, broken, title, hidden)

@@ -5,8 +5,8 @@ from typing import Container, Dict, Generic, List, Optional, Protocol, TypeVar, 
 
 from ..labels import word_shown
 from ..runner import shown
-from .amounts import Amount, Amounts, AmountError
-from .book_rows import Row, letters
+from .amounts import Amount, AmountError, Amounts
+from .books.rows import Row, letters
 from .faults import Faults
 from .reading import Form, NumberedRow, rows_of
 

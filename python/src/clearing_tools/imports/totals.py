@@ -50,11 +50,11 @@ from .. import cli, files
 from ..runner import command
 from . import made_case, options
 from .amounts import Amount, shown
-from .claims import Claims, Totals, some_network
 from .faults import Faults
 from .groups import plain
 from .left_out import add_rates
-from .methods import Networks, need_numpy, networks_of
+from .networks.claims import Claims, Totals, some_network
+from .networks.methods import Networks, need_numpy, networks_of
 from .sheet_options import TotalsOptions
 from .summary import Summary
 from .tables import Cells, Listing, Table, need_column

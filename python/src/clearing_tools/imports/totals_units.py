@@ -6,7 +6,7 @@ from clearing_client.format import MAX_CASH, MAX_OUTSIDE
 from clearing_client.limits import LIMITS, Limits, of_counts
 
 from .amounts import Amount, decimals_of, shown
-from .claims import Totals
+from .networks.claims import Totals
 from .sheet_options import TotalsOptions
 from .summary import Line
 from .totals_table import TotalsTable

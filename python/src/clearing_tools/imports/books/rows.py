@@ -1,8 +1,8 @@
 """The rows of a sheet of a workbook, however it is read."""
 from typing import Dict, Iterator, List, Tuple
 
-from .book_scan import MAX_CELLS
-from .faults import SheetError
+from ..faults import SheetError
+from .scan import MAX_CELLS
 
 Row = List[str]
 """The cells of a row, each a text, that of a workbook with its number."""

@@ -2,7 +2,7 @@
 from collections import deque
 from typing import Callable, Dict, List, NamedTuple, Optional, Sequence, Tuple
 
-from .generated import Pcg32
+from ..generated import Pcg32
 
 Pair = Tuple[int, int]
 """The places of debtor and creditor."""

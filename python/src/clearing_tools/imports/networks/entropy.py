@@ -6,7 +6,7 @@ from typing import TYPE_CHECKING, List, Optional, Tuple
 
 import numpy
 
-from ..runner import Progress
+from ...runner import Progress
 from .claims import Claims, Cut, Pair, Totals, complete, some_network
 
 if TYPE_CHECKING:

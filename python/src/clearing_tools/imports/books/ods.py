@@ -2,12 +2,13 @@
 import re
 from typing import TYPE_CHECKING, Callable, Dict, Iterator, List, Tuple
 
-from ..runner import lacking
-from .amounts import CURRENCIES
-from .book_cells import ERROR, cell_of, in_per_cent, of_number, of_text, of_truth
-from .book_scan import CELLS, NUMERIC, OFFICE, ROW_GROUPS, TABLE, TEXT, ContentScan, Scan
-from .book_rows import Row, check_count, filled_down, letters, limited
-from .faults import SheetError
+from ...runner import lacking
+from ..amounts import CURRENCIES
+from ..faults import SheetError
+from .cells import ERROR, cell_of, in_per_cent, of_number, of_text, of_truth
+from .rows import Row, check_count, filled_down, letters, limited
+from .scan import Scan
+from .scan_ods import CELLS, NUMERIC, OFFICE, ROW_GROUPS, TABLE, TEXT, ContentScan
 
 if TYPE_CHECKING:
     from odf.element import Element

@@ -2,11 +2,12 @@
 import re
 from typing import TYPE_CHECKING, Dict, Iterator, List, Optional, Tuple
 
-from ..runner import lacking
-from .book_cells import LOOKED_AT, currency_in, in_per_cent, of_date, of_number, of_text, of_truth
-from .book_scan import Scan, WorksheetScan, merged_down
-from .book_rows import Row, check_count, filled_down, limited
-from .faults import SheetError
+from ...runner import lacking
+from ..faults import SheetError
+from .cells import LOOKED_AT, currency_in, in_per_cent, of_date, of_number, of_text, of_truth
+from .rows import Row, check_count, filled_down, limited
+from .scan import Scan
+from .scan_xlsx import WorksheetScan, merged_down
 
 if TYPE_CHECKING:
     from openpyxl.cell.read_only import ReadOnlyCell

@@ -13,12 +13,12 @@ import warnings
 import zipfile
 from typing import List, Optional, Protocol, Tuple
 
-from ..runner import ToolError
-from .book_ods import OdsBook
-from .book_rows import Row
-from .book_scan import scan_all
-from .book_xlsx import XlsxBook
-from .faults import SheetError
+from ...runner import ToolError
+from ..faults import SheetError
+from .ods import OdsBook
+from .parts import scan_all
+from .rows import Row
+from .xlsx import XlsxBook
 
 ZIP, OLD = b"PK\x03\x04", bytes.fromhex("d0cf11e0a1b11ae1")
 ONE_AT_A_TIME = threading.Lock()

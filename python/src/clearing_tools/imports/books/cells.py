@@ -5,7 +5,7 @@ from decimal import Decimal
 from fractions import Fraction
 from typing import Optional, Union
 
-from .amounts import CURRENCIES, Cell
+from ..amounts import CURRENCIES, Cell
 
 ERROR = re.compile(r"#(DIV/0!|N/A|NAME\?|NULL!|NUM!|REF!|VALUE!|SPILL!|CALC!|GETTING_DATA)|Err:[0-9]{3}")
 LOOKED_AT = 255

@@ -3,10 +3,10 @@ whole units, with every total kept."""
 import importlib
 from typing import List, NamedTuple, Optional
 
-from ..runner import lacking
+from ...runner import lacking
+from ..sheet_options import TotalsOptions
 from .chain import Settling, sampled
 from .claims import Claims, Cut, Draw, Totals
-from .sheet_options import TotalsOptions
 from .sparse import sparsest
 
 MAX_STEPS = 2_000_000

@@ -4,7 +4,7 @@ from bisect import bisect_right
 from itertools import accumulate
 from typing import List, Sequence
 
-from ..runner import Progress
+from ...runner import Progress
 from .claims import Claims, Draw, Pair, Totals, complete
 
 

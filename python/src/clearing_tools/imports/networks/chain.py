@@ -5,7 +5,7 @@ from __future__ import annotations
 
 from typing import List, Optional, Sequence, Tuple
 
-from ..runner import Progress
+from ...runner import Progress
 from .claims import Claims, Draw, Pair, Totals, complete, some_network
 
 # How often a chain is looked at on its way to the first network.

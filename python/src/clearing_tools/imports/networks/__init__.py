@@ -1,0 +1,1 @@
+"""Networks that have given totals of what banks owe and are owed."""
