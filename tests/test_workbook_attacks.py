@@ -90,7 +90,7 @@ class Books(Case):
     def rows(self, data):
         """What is read of a workbook: rows, each cell its text, value, fault and currency."""
         self.place.write_bytes(data)
-        title, rows, hidden = workbook.rows_of(str(self.place), None, "--sheet")
+        title, rows, hidden = workbook.sheet_rows(str(self.place), None, "--sheet")
         kept = [
             (number, [(str(cell), getattr(cell, "value", None), getattr(cell, "fault", None)) for cell in row])
             for number, row in rows

@@ -16,7 +16,7 @@ import stat
 import sys
 from typing import IO, Iterable, Iterator, List, Mapping, Optional, Sequence, Tuple, Union
 
-from .runner import ToolError, StrPath
+from .runner import StrPath, ToolError
 
 Content = Union[str, bytes, IO[bytes]]
 Contents = Union[Mapping[str, Content], Mapping[pathlib.Path, Content], Iterable[Tuple[StrPath, Content]]]
@@ -50,6 +50,12 @@ def bytes_in(file: IO[bytes], most: int = MOST_BYTES) -> bytes:
         if content.tell() > most or os.fstat(file.fileno()).st_size > most:
             raise OSError(errno.EFBIG, f"it is longer than {most:,} bytes")
     return content.getvalue()
+
+
+def in_quotes(value: object) -> str:
+    """A field of a record, in quotes where it needs them."""
+    text = str(value)
+    return '"' + text.replace('"', '""') + '"' if any(c in text for c in ',"\r\n') else text
 
 
 def csv_text(records: Iterable[Iterable[object]]) -> str:

@@ -7,7 +7,7 @@ from typing import Dict, Optional, Set, Tuple, Union
 BLANKS = " \t\u00a0\u2007\u2009\u202f"
 SAME_SIGN = {**{blank: " " for blank in BLANKS}, "\u2019": "'"}
 DASHES = "-\u2010\u2011\u2012\u2013\u2014\u2212"
-CURRENCIES = {"€": "EUR", "£": "GBP"}
+SIGNS = {"€": "EUR", "£": "GBP"}
 PLAIN = re.compile(r"[0-9]*([.,' ][0-9]*)*", re.ASCII)
 POWER = re.compile(r"([0-9]*)(?:([.,])([0-9]*))?[eE]([+-]?[0-9]{1,2})", re.ASCII)
 MOST_DIGITS = 40
@@ -213,7 +213,7 @@ def bare(text: str) -> Tuple[str, Optional[str]]:
     ):
         match = re.fullmatch(pattern, text, re.DOTALL)
         if match and is_currency(match["code"]):
-            return match["rest"].strip(" "), CURRENCIES.get(match["code"], match["code"])
+            return match["rest"].strip(" "), SIGNS.get(match["code"], match["code"])
     return text, None
 
 

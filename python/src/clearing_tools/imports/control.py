@@ -5,7 +5,7 @@ import unicodedata
 from fractions import Fraction
 from typing import Container, Dict, Iterable, Iterator, List, Mapping, Optional, Sequence, Set, Tuple, Union
 
-from .amounts import Amount, Amounts, AmountError, decimals_of, shown
+from .amounts import Amount, AmountError, Amounts, decimals_of, shown
 from .faults import Faults
 from .sheet_options import SheetOptions
 from .summary import Summary
@@ -199,7 +199,7 @@ def off_places(line: Sequence[Value], sums: Sequence[Sum]) -> List[Off]:
     ]
 
 
-class Totals:
+class TotalLines:
     """The lines of totals of a table, found before any is dropped: rows and columns by their names, each with the
     places at which it is wrong."""
 
@@ -221,7 +221,7 @@ class Totals:
         columns: Sequence[str],
         banks: Sequence[str] = (),
         may_be_empty: Container[str] = (),
-    ) -> "Totals":
+    ) -> "TotalLines":
         """Finds them in some columns of a table, of which those of banks may be lines of totals themselves."""
         values = Values.read(table, args.amounts(), columns, may_be_empty)
         places = {column: at for at, column in enumerate(columns)}

@@ -1,11 +1,33 @@
 """What is left out of a list of exposures: lines by their values, lines of totals, and banks with all their debts."""
-from typing import Dict, List, Set
+from typing import Container, Dict, List, NamedTuple, Set
 
-from .control import Totals, is_called_total, wrong
+from .amounts import Amount
+from .control import TotalLines, is_called_total, wrong
 from .exposure_sheets import ExposureSheets
 from .left_out import Gone, beside_of, no_total, tell_columns
 from .summary import Counted
 from .tables import quoted
+
+
+class Judged(NamedTuple):
+    """A line of totals: its row, its parties and those of them that are a total, its amount, and the sum of the lines
+    that it is to be the sum of."""
+
+    row: int
+    names: List[str]
+    open: List[str]
+    amount: Amount
+    total: Amount
+
+    @property
+    def is_right(self) -> bool:
+        """Whether its amount is the sum."""
+        return self.amount == self.total
+
+
+def is_called(name: str) -> bool:
+    """Whether a party of a line is called a total, or nothing."""
+    return not name or is_called_total(name)
 
 
 class Dropping:
@@ -30,7 +52,7 @@ class Dropping:
         """Leaves out what is to be dropped, once its amounts are those of the others."""
         args, faults = self.args, self.faults
         columns = [column for column in self.sheets.bank_columns.amounts if column in self.table]
-        totals = Totals.read(self.table, args, columns, may_be_empty=columns)
+        totals = TotalLines.read(self.table, args, columns, may_be_empty=columns)
         # As they are before anything is left out, where they are asked for.
         parties = self.sheets.parties() if args.drop or totals.rows else {}
         dropped = {row: names for row, names in parties.items() if any(name in args.drop for name in names)}
@@ -83,45 +105,51 @@ class Dropping:
 
     def is_total(self, name: str) -> bool:
         """Whether a party of a line is none but a word for all of them."""
-        return not name or is_called_total(name) or name not in self.table.rows and name in self.args.drop
+        return is_called(name) or name not in self.table.rows and name in self.args.drop
+
+    def rows_below(self, names: List[str], dropped: Container[int], parties: Dict[int, List[str]]) -> List[int]:
+        """The lines that a line of totals is the sum of: those that are not dropped, of the same bank where it names
+        one."""
+        sides = [(at, name) for at, name in enumerate(names) if not self.is_total(name)]
+        return [
+            row
+            for row, others in parties.items()
+            if row not in dropped and all(others[at] == name for at, name in sides)
+        ]
+
+    def sum_of(self, rows: List[int], amount: Amount) -> Amount:
+        """The sum of some lines, to which an amount is compared. Over several currencies it may be in that of the
+        network."""
+        amounts = [self.sheets.quiet(row) or 0 for row in rows]
+        rate = self.sheets.columns.rate
+        if not rate or sum(amounts) == amount:
+            return sum(amounts)
+        currencies = [str(self.list.cell(row, rate[0])) for row in rows]
+        return sum(own * self.sheets.rates.rates.get(currency, 0) for own, currency in zip(amounts, currencies))
+
+    def judged(self, dropped: Dict[int, List[str]], parties: Dict[int, List[str]]) -> List[Judged]:
+        """The lines of totals among those that are dropped: each has a party that is a total, and an amount."""
+        found = []
+        for row, names in dropped.items():
+            open_, amount = [name for name in names if self.is_total(name)], self.sheets.quiet(row)
+            if open_ and amount is not None:
+                total = self.sum_of(self.rows_below(names, dropped, parties), amount)
+                found.append(Judged(row, names, open_, amount, total))
+        return found
 
     def check_lines(self, dropped: Dict[int, List[str]], parties: Dict[int, List[str]]) -> Set[str]:
         """The lines of totals among those that are dropped have the sum of the others: of one bank's, where they name
         one. Gives the names that lines of totals have."""
-        amounts = {row: self.sheets.quiet(row) for row in parties}
-        judged, named = [], {name for names in dropped.values() for name in names if not name or is_called_total(name)}
-        for row, names in dropped.items():
-            open_ = [self.is_total(name) for name in names]
-            amount = amounts[row]
-            if not any(open_) or amount is None:
-                continue
-            rest = [
-                other
-                for other in parties
-                if other not in dropped
-                and all(o or name == mine for o, name, mine in zip(open_, parties[other], names))
-            ]
-            total = sum(amounts[other] or 0 for other in rest)
-            rate = self.sheets.columns.rate
-            if rate and amount != total:
-                # A total over several currencies may stand in that of the network.
-                total = sum(
-                    (amounts[other] or 0) * self.sheets.rates.get(str(self.list.cell(other, rate[0])), 0)
-                    for other in rest
-                )
-            judged.append((row, amount, total, any(not name or is_called_total(name) for name in names)))
-            if amount == total:
-                named.update(name for name, o in zip(names, open_) if o)
-        right = sum(value == total for _, value, total, _ in judged)
-        for row, value, total, is_named in judged:
+        judged = self.judged(dropped, parties)
+        right = sum(line.is_right for line in judged)
+        for line in judged:
             # Lines of a bank that the table lacks are no totals, unless some are.
-            if value != total and (is_named or right >= 2):
-                self.faults.add(self.list, row, self.sheets.columns.amount, wrong("the line of totals", value, total))
+            if not line.is_right and (any(map(is_called, line.names)) or right >= 2):
+                what = wrong("the line of totals", line.amount, line.total)
+                self.faults.add(self.list, line.row, self.sheets.columns.amount, what)
         if right:
             self.summary.tell("control totals that agree", right, None, self.list.label)
-        return named | {
-            name
-            for names, (_, value, total, _) in zip(dropped.values(), judged)
-            if value != total and right >= 2
-            for name in names
-        }
+        named = {name for names in dropped.values() for name in names if is_called(name)}
+        for line in judged:
+            named.update(line.open if line.is_right else line.names if right >= 2 else [])
+        return named

@@ -2,21 +2,19 @@
 from dataclasses import dataclass
 from typing import Callable, Dict, Iterable, List, Optional, Set, Tuple
 
-from .amounts import Amount, is_null, shown
+from .amounts import Amount, is_null
 from .books.rows import Row
 from .control import is_called_total
 from .exposure_sheets import ExposureSheets
+from .groups import RANKS
 from .left_out import LEFT, ask_currencies, currencies_in
 from .summary import Counted
 from .tables import quoted
 from .units import Debt
 
-RANKS = frozenset("123456789")
-"""The classes as they stand in a cell."""
-
 
 @dataclass
-class Line:
+class Exposure:
     """A line of the list: its row, and the debt that it is part of."""
 
     __slots__ = ("row", "debtor", "creditor", "rank", "amount")
@@ -35,13 +33,12 @@ class Lines:
         self.sheets, self.args, self.faults, self.summary = sheets, sheets.args, sheets.faults, sheets.summary
         self.list, self.table, self.cells, self.columns = sheets.list, sheets.table, sheets.cells, sheets.columns
 
-    def lines(self) -> List[Line]:
+    def lines(self) -> List[Exposure]:
         """The lines that are part of a debt; lines that are the same count once where that is said."""
         seen: Set[Tuple[str, ...]] = set()
-        converted: Dict[str, Counted] = {}
         once, lines = [], []
         left = {what: Counted() for what in LEFT}
-        takes = self.line_in(converted, left)
+        takes = self.line_in(left)
         for row, cells in self.list.cells.items():
             key = tuple(cells)
             if key in seen:
@@ -66,16 +63,12 @@ class Lines:
             step = "leftOut" if self.args.duplicates == "once" else "summed"
             amount: Amount = sum(filter(None, map(self.sheets.quiet, once)))
             self.summary.tell("lines that are the same in every column", len(once), amount, how, step=step)
-        for currency, counted in converted.items():
-            detail = f"at {shown(self.sheets.rates[currency])}: {shown(counted.sum * self.sheets.rates[currency])}"
-            self.summary.tell(f"lines in {currency}", counted.count, counted.sum, detail, step="converted")
+        self.sheets.rates.tell(self.summary, "lines")
         for what, counted in left.items():
             counted.tell(self.summary, LEFT[what], step="read" if what in ("turned", "zero") else "leftOut")
         return lines
 
-    def line_in(
-        self, converted: Dict[str, Counted], left: Dict[str, Counted]
-    ) -> Callable[[int, Row], Optional[Line]]:
+    def line_in(self, left: Dict[str, Counted]) -> Callable[[int, Row], Optional[Exposure]]:
         """What makes a line of a row and its cells: nothing of one that is left out, or has a fault. What texts mean
         that stand in many cells is looked up once."""
         columns, banks, known = self.columns, self.table.rows, self.cells.amounts.known
@@ -83,7 +76,7 @@ class Lines:
         has_rank, has_rate, kinds = bool(columns.class_of or columns.rank), bool(columns.rate), self.args.left_out.kinds
         is_empty: Dict[str, bool] = {}
 
-        def line_of(row: int, cells: Row) -> Optional[Line]:
+        def line_of(row: int, cells: Row) -> Optional[Exposure]:
             debtor, creditor, text = cells[owes], cells[owed], cells[worth]
             if text not in is_empty:
                 bare = str(text).strip()
@@ -95,14 +88,14 @@ class Lines:
             other = creditor if type(creditor) is str and creditor in banks else self.bank_of(row, columns.creditor)
             rank = self.class_in(row) if has_rank else self.args.rank
             is_plain = type(text) is str and text in known and not has_rate
-            amount = known[text] if is_plain else self.amount_of(row, converted)
+            amount = known[text] if is_plain else self.amount_of(row)
             if one is not None and one == other:
                 what = f"{one} is its own creditor; correct it, or say --leave-out self"
                 self.faults.add(self.list, row, columns.creditor, what, kind="self")
             elif amount < 0:
                 one, other, amount = other, one, -amount
                 left["turned"].add(amount)
-            return None if one is None or other is None or rank is None else Line(row, one, other, rank, amount)
+            return None if one is None or other is None or rank is None else Exposure(row, one, other, rank, amount)
 
         return line_of
 
@@ -161,24 +154,16 @@ class Lines:
             return None
         return int(text)
 
-    def amount_of(self, row: int, converted: Dict[str, Counted]) -> Amount:
+    def amount_of(self, row: int) -> Amount:
         """The amount of a line in the currency of the network."""
         amount = self.cells.amount(self.list, row, self.columns.amount)
-        if not self.columns.rate:
-            return amount
-        column, file = self.columns.rate
-        currency = str(self.list.cell(row, column))
-        if currency not in self.sheets.rates:
-            self.faults.add(self.list, row, column, f"{file} has no rate for {currency!r}")
-            return 0
-        converted.setdefault(currency, Counted()).add(amount)
-        return amount * self.sheets.rates[currency]
+        return self.sheets.rates.worth(self.list, row, amount) if self.columns.rate else amount
 
     # Debts
 
     def debts(self) -> List[Debt]:
         """The debts of the lines: one for each debtor, creditor and class."""
-        by_key: Dict[Tuple[str, str, int], List[Line]] = {}
+        by_key: Dict[Tuple[str, str, int], List[Exposure]] = {}
         for line in self.lines():
             by_key.setdefault((line.debtor, line.creditor, line.rank), []).append(line)
         several = {key: lines for key, lines in by_key.items() if len(lines) > 1}
@@ -200,7 +185,7 @@ class Lines:
             self.summary.tell("debts of amount 0, left out", empty, step="leftOut")
         return debts
 
-    def check_several(self, key: Tuple[str, str, int], lines: List[Line]) -> None:
+    def check_several(self, key: Tuple[str, str, int], lines: List[Exposure]) -> None:
         """Refuses several lines of one debt where nothing says that they are to be summed."""
         if self.args.is_summed:
             return
@@ -213,7 +198,7 @@ class Lines:
                 )
                 self.faults.add(self.list, line.row, None, what, kind="several")
 
-    def check_apart(self, several: Iterable[List[Line]]) -> None:
+    def check_apart(self, several: Iterable[List[Exposure]]) -> None:
         """Refuses to sum lines that differ in a column that nothing was said of, with two of them."""
         for column in self.sheets.unlooked():
             if column in self.args.ignore:

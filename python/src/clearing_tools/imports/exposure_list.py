@@ -52,7 +52,7 @@ from .exposure_lines import Lines
 from .exposure_sheets import ExposureSheets
 from .faults import Faults
 from .groups import add_groups, read_groups
-from .left_out import tell_columns
+from .left_out import RATES, tell_columns
 from .sheet_options import ListOptions
 from .summary import Summary, tell_read
 from .tables import Listing
@@ -63,10 +63,7 @@ def add_own(parser: argparse.ArgumentParser) -> None:
     """The words of this tool alone."""
     add = parser.add_argument
     add("file", metavar="LIST", help="the list of exposures")
-    add("--table", required=True, metavar="FILE", help="the table of banks")
-    add("--table-sheet", metavar="NAME", help="the sheet of the table's workbook")
-    above = "rows above the header of the table that are passed over (0)"
-    add("--table-skip", type=options.count_in, default=0, metavar="N", help=above)
+    options.add_table(parser, "the table of banks", is_needed=True)
     add("--debtor", default="debtor", metavar="NAME", help="the column of who owes")
     add("--creditor", default="creditor", metavar="NAME", help="the column of who is owed")
     add("--amount", default="amount", metavar="NAME", help="the column of amounts")
@@ -80,8 +77,7 @@ def add_own(parser: argparse.ArgumentParser) -> None:
     add("--ignore", action="append", default=[], metavar="COLUMN", help=alike)
     chosen = "take these lines alone; may be repeated"
     add("--where", action="append", default=[], type=options.pair_in, metavar="COLUMN=VALUE", help=chosen)
-    rates = "a table of currencies, and what a unit of each is worth"
-    add("--rate", type=options.pair_in, metavar="COLUMN=FILE", help=rates)
+    add("--rate", type=options.pair_in, metavar="COLUMN=FILE", help=RATES)
     add_groups(parser)
 
 

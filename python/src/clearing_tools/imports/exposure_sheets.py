@@ -1,16 +1,16 @@
 """A list of exposures and the table of its banks: their columns, and what is left out of them."""
 import contextlib
-import re
 from typing import Dict, List, NamedTuple, Optional, Tuple
 
 from . import made_case
 from .amounts import Amount, AmountError
 from .columns import Columns, columns_of, find_column, need_usual
 from .faults import Faults
-from .groups import read_classes, read_rates
+from .groups import read_classes
+from .left_out import Rates
 from .sheet_options import ListOptions
 from .summary import Summary
-from .tables import Cells, Listing, Table, need_column
+from .tables import Cells, Listing, Table, need_column, pair_of
 
 Pair = Tuple[str, str]
 """A column of the list, and what stands behind the sign of equality: a file or a value."""
@@ -49,7 +49,7 @@ class ExposureSheets:
         self.args, self.faults, self.summary = args, faults, summary
         (self.list, self.table), (self.columns, self.bank_columns) = sheets, columns
         self.classes: Dict[str, int] = {}
-        self.rates: Dict[str, Amount] = {}
+        self.rates = Rates(faults)
         self.cells = Cells(args.amounts(is_signed=args.takes_negative), faults)
         # What is read of an amount, whatever others are, by its text.
         self.known: Dict[str, Optional[Amount]] = {}
@@ -63,7 +63,7 @@ class ExposureSheets:
         found = cls(args, faults, summary, sheets, columns)
         class_of, rate = columns[0].class_of, columns[0].rate
         found.classes = read_classes(class_of[1], args, faults) if class_of else {}
-        found.rates = read_rates(rate[1], args, faults) if rate else {}
+        found.rates = Rates.of(rate, args, faults) if rate else found.rates
         return found
 
     @property
@@ -134,8 +134,7 @@ def bank_columns_of(table: Table, args: ListOptions, faults: Faults) -> Columns:
 
 
 def pair_in(faults: Faults, table: Listing, option: str, word: str) -> Pair:
-    """The column and what stands behind the sign of equality, the first behind which there is a column."""
-    places = (match.start() for match in re.finditer("=", word))
-    at = next((at for at in places if word[:at] in table), word.index("=", 1))
-    need_column(faults, table, option, word[:at])
-    return word[:at], word[at + 1 :]
+    """The column of a table and what stands behind the sign of equality. A column that is not there is refused."""
+    column, value = pair_of(word, [table])
+    need_column(faults, table, option, column)
+    return column, value

@@ -2,11 +2,14 @@
 import argparse
 from typing import Dict, Tuple
 
-from .amounts import Amount, Amounts, AmountError
+from .amounts import Amount, AmountError, Amounts
 from .faults import Faults
 from .reading import Form
 from .sheet_options import SheetOptions, TwoFileOptions
 from .tables import Table, need_column
+
+RANKS = frozenset("123456789")
+"""The classes as they stand in a cell."""
 
 
 def add_groups(parser: argparse.ArgumentParser) -> None:
@@ -45,7 +48,7 @@ def read_classes(name: str, args: SheetOptions, faults: Faults) -> Dict[str, int
     """The class of each instrument."""
     table, texts = pairs_of(name, args, faults, "class")
     for key, text in texts.items():
-        if text not in list("123456789"):
+        if text not in RANKS:
             faults.add(table, table.rows[key], "class", f"{text!r} is not a class from 1 to 9")
     faults.end_if_any()
     return {key: int(text) for key, text in texts.items()}

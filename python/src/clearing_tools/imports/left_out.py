@@ -4,12 +4,12 @@ import argparse
 import re
 from typing import Callable, Dict, Iterable, List, Optional, Sequence, Tuple
 
-from .amounts import Amount, Amounts, AmountError, shown
+from .amounts import Amount, AmountError, Amounts, shown
 from .faults import Faults
 from .groups import read_rates
 from .sheet_options import SheetOptions
 from .summary import Counted, Summary
-from .tables import AnySheet, Key, Sheet, Table, need_column, quoted
+from .tables import AnySheet, Key, Sheet, Table, need_column, pair_of, quoted
 
 LEFT = {
     "self": "debts of a bank to itself, left out",
@@ -19,13 +19,15 @@ LEFT = {
     "zero": "empty amounts, read as 0",
 }
 """What is done with amounts that are none of a debt, in words."""
-CURRENCIES = set(
+CODES = set(
     "EUR USD GBP CHF JPY CNY INR AUD CAD NZD SEK NOK DKK PLN CZK HUF RON BGN TRY RUB BRL MXN ZAR KRW SGD HKD THB IDR "
     "MYR PHP ILS SAR AED".split()
 )
 """Codes that show a column to be one of currencies, where it has two of them."""
 CURRENCY = re.compile(r"currency|ccy|curr|währung|waehrung|devise|monnaie|valuta|divisa|moneda|moeda", re.IGNORECASE)
 """What a column of currencies may be called."""
+RATES = "a table of currencies, and what a unit of each is worth"
+"""What the help of a tool says of the word --rate."""
 
 
 def add_left_out(parser: argparse.ArgumentParser) -> None:
@@ -46,7 +48,7 @@ def add_left_out(parser: argparse.ArgumentParser) -> None:
 def add_rates(parser: argparse.ArgumentParser) -> None:
     """The words of a tool whose amounts may be in several currencies, told by a column."""
     add = parser.add_argument
-    add("--rate", metavar="COLUMN=FILE", help="a table of currencies, and what a unit of each is worth")
+    add("--rate", metavar="COLUMN=FILE", help=RATES)
     add(
         "--ignore",
         action="append",
@@ -132,7 +134,7 @@ def currencies_in(table: AnySheet, column: str) -> List[str]:
     there = {str(text) for text in table.column(column).values()}
     is_named = CURRENCY.fullmatch(column.strip()) is not None
     there -= set() if is_named else {""}
-    is_it = len(there) > 1 and (is_named or {text.upper() for text in there} <= CURRENCIES)
+    is_it = len(there) > 1 and (is_named or {text.upper() for text in there} <= CODES)
     return sorted(there) if is_it else []
 
 
@@ -140,7 +142,7 @@ def is_of_currencies(table: AnySheet, column: str) -> bool:
     """Whether a column is one of currencies, be it of one alone."""
     there = {str(text) for text in table.column(column).values()} - {""}
     is_named = CURRENCY.fullmatch(column.strip()) is not None
-    return bool(there) and {text.upper() for text in there} <= CURRENCIES or is_named
+    return bool(there) and {text.upper() for text in there} <= CODES or is_named
 
 
 def ask_currencies(faults: Faults, table: AnySheet, column: str, more: str = "") -> None:
@@ -174,10 +176,22 @@ class Rates:
         rates.rates = read_rates(name, args, faults)
         return rates
 
+    @classmethod
+    def of(cls, pair: Tuple[str, str], args: SheetOptions, faults: Faults) -> "Rates":
+        """Those of a file for the currencies of a column."""
+        rates = cls(faults, pair[1], pair[0])
+        rates.rates = read_rates(pair[1], args, faults)
+        return rates
+
     def convert(self, table: Sheet[Key], row: Key, amount: Amount) -> Amount:
         """An amount of a row in the currency of the network."""
         if self.column is None or self.column not in table or not amount:
             return amount
+        return self.worth(table, row, amount)
+
+    def worth(self, table: Sheet[Key], row: Key, amount: Amount) -> Amount:
+        """An amount of a row of a table that has the column, in the currency of the network."""
+        assert self.column is not None  # as who calls has seen
         currency = str(table.cell(row, self.column))
         if currency not in self.rates:
             self.faults.add(table, table.rows[row], self.column, f"{self.word} has no rate for {currency!r}")
@@ -185,17 +199,10 @@ class Rates:
         self.converted.setdefault(currency, Counted()).add(amount)
         return amount * self.rates[currency]
 
-    def tell(self, summary: Summary) -> None:
+    def tell(self, summary: Summary, what: str = "amounts") -> None:
         """Tells what was converted."""
         for currency, counted in self.converted.items():
             rate = self.rates[currency]
             counted.tell(
-                summary, f"amounts in {currency}", f"at {shown(rate)}: {shown(counted.sum * rate)}", step="converted"
+                summary, f"{what} in {currency}", f"at {shown(rate)}: {shown(counted.sum * rate)}", step="converted"
             )
-
-
-def pair_of(word: str, tables: Iterable[Table]) -> Tuple[str, str]:
-    """The column and the file of a word, the first sign of equality behind which there is a column."""
-    places = [match.start() for match in re.finditer("=", word)]
-    at = next((at for at in places if any(word[:at] in table for table in tables)), word.index("=", 1))
-    return word[:at], word[at + 1 :]

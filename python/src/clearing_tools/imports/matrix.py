@@ -41,22 +41,13 @@ from typing import Dict, Iterable, Iterator, List, NamedTuple, Optional, Sequenc
 from .. import cli
 from ..runner import command
 from . import made_case, options
-from .amounts import Amount, Amounts, AmountError, is_null
+from .amounts import Amount, AmountError, Amounts, is_null
 from .columns import Columns, alike, columns_of, take_alike
-from .control import Totals, is_called_total
+from .control import TotalLines, is_called_total
 from .faults import Faults
 from .groups import add_groups, read_groups
 from .left_out import (
-    LEFT,
-    Gone,
-    Rates,
-    add_rates,
-    ask_currencies,
-    beside_of,
-    currencies_in,
-    is_of_currencies,
-    no_total,
-    tell_columns,
+    LEFT, Gone, Rates, add_rates, ask_currencies, beside_of, currencies_in, is_of_currencies, no_total, tell_columns,
 )
 from .sheet_options import MatrixOptions
 from .summary import Counted, Summary, tell_read
@@ -70,15 +61,7 @@ def add_own(parser: argparse.ArgumentParser) -> None:
     """The words of this tool alone."""
     add = parser.add_argument
     add("file", metavar="MATRIX", help="the matrix of liabilities")
-    add("--table", metavar="FILE", help="a file with the columns that are not banks")
-    add("--table-sheet", metavar="NAME", help="the sheet of the table's workbook")
-    add(
-        "--table-skip",
-        type=options.count_in,
-        default=0,
-        metavar="N",
-        help="rows above the header of the table that are passed over (0)",
-    )
+    options.add_table(parser, "a file with the columns that are not banks")
     add("--columns-owe", action="store_true", help="the bank of a column owes the bank of a row")
     add_rates(parser)
     add_groups(parser)
@@ -127,7 +110,7 @@ class Matrix:
         args, matrix, table = self.args, self.matrix, self.table
         banks = [column for column in matrix.header if column not in self.extra]
         beside = [column for column in self.columns.amounts if column in table] if self.is_one else []
-        several = [Totals.read(matrix, args, banks + beside, banks, beside)]
+        several = [TotalLines.read(matrix, args, banks + beside, banks, beside)]
         if not self.is_one:
             several.append(self.totals_beside(several[0]))
         for name in args.drop:
@@ -177,10 +160,10 @@ class Matrix:
             return
         gone.tell(self.summary)
 
-    def totals_beside(self, found: Totals) -> Totals:
+    def totals_beside(self, found: TotalLines) -> TotalLines:
         """The totals of the table. A bank with amounts of its own there, which are not the sum of the others', is a
         bank."""
-        beside = Totals.read(self.table, self.args, [c for c in self.columns.amounts if c in self.table])
+        beside = TotalLines.read(self.table, self.args, [c for c in self.columns.amounts if c in self.table])
         for row in [
             row for row in found.rows if row in self.table.rows and row not in beside.rows and not is_called_total(row)
         ]:

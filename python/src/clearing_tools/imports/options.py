@@ -14,7 +14,7 @@ from clearing_client.limits import LIMITS, WIDE
 from .. import cases, cli, files
 from ..runner import ToolError
 from . import left_out, made_case
-from .amounts import Amount, Amounts, AmountError, is_null, shown
+from .amounts import Amount, AmountError, Amounts, is_null, shown
 from .columns import Columns
 from .faults import Faults, Located
 from .sheet_options import Kind, SheetOptions, TwoFileOptions, options_of
@@ -80,6 +80,15 @@ def pair_in(word: str) -> str:
     if "=" not in word.strip("="):
         raise argparse.ArgumentTypeError(f"{word!r} is not of the form COLUMN=..")
     return word
+
+
+def add_table(parser: argparse.ArgumentParser, what: str, is_needed: bool = False) -> None:
+    """The words of a tool that reads a table of banks beside its sheet."""
+    add = parser.add_argument
+    add("--table", required=is_needed, metavar="FILE", help=what)
+    add("--table-sheet", metavar="NAME", help="the sheet of the table's workbook")
+    above = "rows above the header of the table that are passed over (0)"
+    add("--table-skip", type=count_in, default=0, metavar="N", help=above)
 
 
 def add_words(parser: argparse.ArgumentParser) -> None:

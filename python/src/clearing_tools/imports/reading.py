@@ -95,7 +95,7 @@ def rows_of(name: str, form: Form) -> Rows:
 
 def book_rows(name: str, form: Form) -> Rows:
     """The rows of a sheet of a workbook."""
-    title, found, hidden = workbook.rows_of(name, form.title, f"{form.before}sheet")
+    title, found, hidden = workbook.sheet_rows(name, form.title, f"{form.before}sheet")
     above, below = [one for one in found if one[0] <= form.skip], [one for one in found if one[0] > form.skip]
     broken = [number for number, row in below if any("\n" in str(cell) for cell in row)]
     return Rows(name, below, above, broken, title, hidden)

@@ -5,7 +5,8 @@ from typing import Dict, Iterable, List, Optional, Sequence, Tuple
 
 from clearing_client.description import STEPS, ImportLine, ImportSummary
 
-from .amounts import Amount, Amounts, AmountError, shown
+from .. import files
+from .amounts import Amount, AmountError, Amounts, shown
 from .reading import is_amount
 from .sheet_options import CaseOptions, SheetOptions
 from .tables import AnySheet
@@ -54,7 +55,7 @@ class Summary:
         for what, count, amount, detail in self.lines:
             total = "" if amount is None else shown(amount).replace(",", "")
             records.append((what, "" if count is None else count, total, detail))
-        return "".join(",".join(map(field_of, record)) + "\n" for record in records)
+        return files.csv_text(map(files.in_quotes, record) for record in records)
 
 
 def line_of(line: Line) -> str:
@@ -63,12 +64,6 @@ def line_of(line: Line) -> str:
     number = f"{count:,}" if count is not None else ""
     total = shown(amount) + (" in all" if count is not None else "") if amount is not None else ""
     return f"{what}: " + "; ".join(part for part in (number, total, detail) if part)
-
-
-def field_of(value: object) -> str:
-    """A field of a record, in quotes where it needs them."""
-    text = str(value)
-    return '"' + text.replace('"', '""') + '"' if any(c in text for c in ',"\r\n') else text
 
 
 class Counted:

@@ -1,7 +1,7 @@
 """Tables of a sheet, with the names of columns in the header, and the amounts of their cells."""
 import re
 from fractions import Fraction
-from typing import Container, Dict, Generic, List, Optional, Protocol, TypeVar, Union
+from typing import Container, Dict, Generic, List, Optional, Protocol, Sequence, Tuple, TypeVar, Union
 
 from ..labels import word_shown
 from ..runner import shown
@@ -177,6 +177,14 @@ def quoted(name: str) -> str:
     return (
         name if re.fullmatch(r"[\w./-]+", name) and not name.startswith("-") else "'" + name.replace("'", "'\\''") + "'"
     )
+
+
+def pair_of(word: str, tables: Sequence[AnySheet]) -> Tuple[str, str]:
+    """The column of some tables and what stands behind the sign of equality in a word: the first sign behind which
+    there is a column."""
+    places = [match.start() for match in re.finditer("=", word)]
+    at = next((at for at in places if any(word[:at] in table for table in tables)), word.index("=", 1))
+    return word[:at], word[at + 1 :]
 
 
 def need_column(faults: Faults, table: AnySheet, option: str, column: str, banks: Container[str] = ()) -> None:

@@ -267,17 +267,10 @@ class NetworkFiles:
 
     def texts_of(self, claims: Claims) -> Tuple[str, str]:
         """The banks file and the debts file of a network."""
-        codes, has_outside = self.network.codes, self.network.has_outside
-        header = ["name", "cash", "rule"] + ["outside"] * has_outside
-        records = [
-            [codes.get(bank.name, bank.name), units_of(bank.cash, self.unit), bank.rule]
-            + ([units_of(bank.outside, self.unit)] if has_outside else [])
-            for bank in self.network.banks
-        ]
-        names = [codes.get(bank.name, bank.name) for bank in self.network.banks]
+        names = [self.network.named(bank.name) for bank in self.network.banks]
         rank = self.sheet.args.rank
         debts = [[names[row], names[column], rank, claim] for (row, column), claim in sorted(claims.items())]
-        return files.csv_text([header, *records]), files.csv_text([DEBTS.split(","), *debts])
+        return self.network.banks_text(self.unit), files.csv_text([DEBTS.split(","), *debts])
 
     def outputs(self) -> options.Outputs:
         """The files to write: those of the networks, of cases of them, and of the labels."""

@@ -5,7 +5,7 @@ from typing import Iterable, List
 from . import made_case, options
 from .amounts import Amount, shown
 from .columns import Columns, columns_of, need_usual
-from .control import Totals
+from .control import TotalLines
 from .faults import Faults
 from .left_out import Gone, Rates, ask_currencies, beside_of, currencies_in, no_total, tell_columns
 from .sheet_options import TotalsOptions
@@ -91,7 +91,7 @@ class TotalsTable:
     def drop_totals(self) -> None:
         """Checks the lines of totals that are dropped, drops them, and refuses the others."""
         args, table, faults = self.args, self.table, self.faults
-        totals = Totals.read(table, args, self.amounts, may_be_empty=self.columns.amounts)
+        totals = TotalLines.read(table, args, self.amounts, may_be_empty=self.columns.amounts)
         for name in args.drop:
             totals.check(name, faults, self.summary)
             gone = self.gone_of(name)

@@ -1,5 +1,4 @@
 """A network in the amounts of a sheet, and how it becomes whole units within the limits of docs/FORMATS.md."""
-import re
 from collections import defaultdict
 from dataclasses import dataclass, field
 from fractions import Fraction
@@ -66,15 +65,23 @@ class Network:
         """What is owed in all."""
         return sum(debt.amount for debt in self.debts)
 
+    def named(self, name: str) -> str:
+        """The name of a bank in the files: its code, where it has one."""
+        return self.codes.get(name, name)
+
+    def banks_text(self, unit: Fraction) -> str:
+        """The banks file in whole units."""
+        header = ["name", "cash", "rule"] + ["outside"] * self.has_outside
+        records = []
+        for bank in self.banks:
+            outside = [units_of(bank.outside, unit)] if self.has_outside else []
+            records.append([self.named(bank.name), units_of(bank.cash, unit), bank.rule, *outside])
+        return files.csv_text([header, *records])
+
     def labels_text(self) -> str:
         """The file of labels: a record for each bank that has a code or a full name."""
-        records = [(self.codes.get(bank.name, bank.name), self.labels.get(bank.name, bank.name)) for bank in self.banks]
-        return "code,name\n" + "".join(f"{code},{in_quotes(name)}\n" for code, name in records if code != name)
-
-
-def in_quotes(text: str) -> str:
-    """A field of a record, in quotes where it needs them."""
-    return '"' + text.replace('"', '""') + '"' if re.search('[,"\r\n]', text) else text
+        records = [(self.named(bank.name), self.labels.get(bank.name, bank.name)) for bank in self.banks]
+        return "code,name\n" + "".join(f"{code},{files.in_quotes(name)}\n" for code, name in records if code != name)
 
 
 def codes_of(names: Iterable[str]) -> Dict[str, str]:
@@ -224,18 +231,9 @@ class Units:
         """The limits that the network needs in its unit."""
         return of_counts(len(self.network.banks), self.count(), sum(self.units))
 
-    def named(self, name: str) -> str:
-        """The name of a bank in the files: its code, where it has one."""
-        return self.network.codes.get(name, name)
-
     def banks_text(self) -> str:
         """The banks file."""
-        header = ["name", "cash", "rule"] + ["outside"] * self.network.has_outside
-        records = []
-        for bank in self.network.banks:
-            outside = [units_of(bank.outside, self.unit)] if self.network.has_outside else []
-            records.append([self.named(bank.name), units_of(bank.cash, self.unit), bank.rule, *outside])
-        return files.csv_text([header, *records])
+        return self.network.banks_text(self.unit)
 
     def debts_text(self) -> str:
         """The debts file."""

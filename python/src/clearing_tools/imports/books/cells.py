@@ -5,7 +5,7 @@ from decimal import Decimal
 from fractions import Fraction
 from typing import Optional, Union
 
-from ..amounts import CURRENCIES, Cell
+from ..amounts import SIGNS, Cell
 
 ERROR = re.compile(r"#(DIV/0!|N/A|NAME\?|NULL!|NUM!|REF!|VALUE!|SPILL!|CALC!|GETTING_DATA)|Err:[0-9]{3}")
 LOOKED_AT = 255
@@ -60,4 +60,4 @@ def currency_in(form: str) -> Optional[str]:
     form = form[:LOOKED_AT]
     match = re.search(r"\[\$([^\[\]\-]+)", form) or re.search(r'"\s*([A-Z]{3}|[€$£¥₹])\s*"', form)
     match = match or re.search(r"([€$£¥₹])", re.sub(r"\[[^\[\]]*\]", "", form))
-    return CURRENCIES.get(match[1].strip(), match[1].strip()) if match else None
+    return SIGNS.get(match[1].strip(), match[1].strip()) if match else None

@@ -3,7 +3,7 @@ import re
 from typing import TYPE_CHECKING, Callable, Dict, Iterator, List, Tuple
 
 from ...runner import lacking
-from ..amounts import CURRENCIES
+from ..amounts import SIGNS
 from ..faults import SheetError
 from .cells import ERROR, cell_of, in_per_cent, of_number, of_text, of_truth
 from .rows import Row, check_count, filled_down, letters, limited
@@ -90,7 +90,7 @@ class OdsBook:
             return of_text(text)
         if kind in NUMERIC:
             currency = has((OFFICE, "currency"))
-            number = of_number(float(has((OFFICE, "value"))), CURRENCIES.get(currency, currency))
+            number = of_number(float(has((OFFICE, "value"))), SIGNS.get(currency, currency))
             return in_per_cent(number) if kind == "percentage" else number
         if kind in ("date", "time"):
             return cell_of(str(has((OFFICE, f"{kind}-value")) or text), None, "is a date, and no amount")

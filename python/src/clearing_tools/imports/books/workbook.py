@@ -43,7 +43,7 @@ def is_workbook(data: bytes) -> bool:
     return data.startswith((ZIP, OLD))
 
 
-def rows_of(name: str, sheet: Optional[str], option: str) -> Tuple[str, List[Tuple[int, Row]], int]:
+def sheet_rows(name: str, sheet: Optional[str], option: str) -> Tuple[str, List[Tuple[int, Row]], int]:
     """The title of the sheet of a workbook, its rows, each its number and its cells, and how many are hidden. The sheet
     is the one that is named, or the only one that has something in it; else it is asked for by the option."""
     with open(name, "rb") as file:

@@ -19,7 +19,7 @@ class Cut(NamedTuple):
 
 
 class Draw:
-    """Numbers from 0 to below 1 by the generator of docs/DEFINITIONS.md."""
+    """Numbers from 0 to below 1 by the generator that also draws the networks of `clearing gen`."""
 
     def __init__(self, seed: int) -> None:
         self.generator = Pcg32(seed, 0)
