@@ -18,7 +18,8 @@ from clearing_tools.drawing import blocks
 from clearing_tools.drawing import network as drawing
 from clearing_tools.evidence import audit, parts
 from clearing_tools.exports import tidy
-from clearing_tools.report import page, player, stands, tables
+from clearing_tools.report import page, player, stands
+from clearing_tools.report import parts as report_parts
 from clearing_tools.report.charts import network, scenarios
 
 DEBTS, JOURNAL = b"debtor,creditor,class,claim\n", b"stamp,debtor,creditor,class,to\n"
@@ -165,7 +166,7 @@ class LargeReports(unittest.TestCase):
     def test_of_very_many_banks_a_thousand_have_parts(self):
         for has_unpaid in (True, False):
             matter = self.large(3_000, has_unpaid)
-            chosen = tables.with_parts(matter)
+            chosen = report_parts.with_parts(matter)
             self.assertLessEqual(len(chosen), 1_000)
             self.assertGreater(len(chosen), 500)
             unpaid = sorted(matter.banks, key=lambda bank: (bank.owed - bank.paid, bank.owed), reverse=True)
@@ -175,14 +176,14 @@ class LargeReports(unittest.TestCase):
             self.assertEqual((len(rows.names), len(columns.names)), (12, 12))
             self.assertTrue({*rows.names, *columns.names} <= set(chosen))
         small = self.large(1_000)
-        self.assertEqual(len(tables.with_parts(small)), 1_000)
+        self.assertEqual(len(report_parts.with_parts(small)), 1_000)
 
     @needs_packages("markupsafe")
     def test_the_name_of_a_bank_without_a_part_leads_to_its_row(self):
         from markupsafe import Markup
 
         matter = self.large(3_000)
-        names, chosen = page.Texts(matter, Markup), tables.with_parts(matter)
+        names, chosen = page.Texts(matter, Markup), report_parts.with_parts(matter)
         for at, bank in enumerate(matter.banks):
             has_part = bank.name in chosen
             self.assertEqual(names.link(bank.name), f'<a href="#{"bank" if has_part else "row"}-{at}">{bank.name}</a>')
@@ -245,15 +246,15 @@ class LargeReports(unittest.TestCase):
 
     def test_of_very_many_debts_the_largest_stand_and_the_others_as_one(self):
         owed = [Owed("A", f"B{n}", 1, 100 + n, 100 + n - (n % 3)) for n in range(30)]
-        largest, others = tables.largest_of(owed, 10)
+        largest, others = report_parts.largest_of(owed, 10)
         self.assertEqual([debt.creditor for debt in largest], [f"B{n}" for n in range(2, 30, 3)])
         self.assertEqual((len(others), set(largest) | set(others)), (20, set(owed)))
-        self.assertEqual(tables.largest_of(owed, 30), (owed, []))
+        self.assertEqual(report_parts.largest_of(owed, 30), (owed, []))
         money = types.SimpleNamespace(number=str)
         small = types.SimpleNamespace(debts=owed, banks=[None] * 31, money=money)
-        self.assertIsNone(tables.debts_of(small, owed, 1).rest)
+        self.assertIsNone(report_parts.debts_of(small, owed, 1).rest)
         large = types.SimpleNamespace(debts=owed * 1000, banks=[None] * 5000, money=money)
-        told = tables.debts_of(large, owed, 1)
+        told = report_parts.debts_of(large, owed, 1)
         self.assertEqual((len(told.rows), told.more), (10, 20))
         for word in ("claim", "paid", "unpaid"):
             self.assertEqual(sum(int(getattr(row, word)) for row in [*told.rows, told.rest]), int(getattr(told, word)))

@@ -1,8 +1,6 @@
 """Both ends where default costs: the least and the greatest payments that clear where a bank in default keeps a part
 of its estate, by `clearing cost-bounds`. Amounts are whole units of account."""
-from __future__ import annotations
-
-from typing import TYPE_CHECKING, List, NamedTuple, Optional, Sequence
+from typing import List, NamedTuple, Optional, Sequence
 
 from clearing_client.records import CostBound
 from clearing_client.results import CostBounds
@@ -10,10 +8,8 @@ from clearing_client.table import Table
 
 from ..labels import count
 from ..texts import Bank, due_of, given_by
-
-if TYPE_CHECKING:
-    from .matter import Matter
-    from .program import Program
+from .matter import Matter, plain
+from .program import Program
 
 MOST_SHOWN = 12
 
@@ -51,7 +47,7 @@ def costs_of(
     path = program.ask("cost-bounds.csv", "cost-bounds", *files, "--keep", str(keep))
     bounds = program.result("cost-bounds", CostBounds, path)
     due = sum(map(due_of, banks))
-    states = ["contagion" if bank.state == "gridlock" else bank.state for bank in banks]
+    states = [plain(bank.state) for bank in banks]
     base = end_of(states, due - sum(map(given_by, banks)), 0, sum(bank.equity for bank in banks))
     least, greatest = (end_at(bounds, which, due, cash) for which in ("least", "greatest"))
     return Costs(keep, base, least, greatest, bounds.standings)

@@ -8,14 +8,16 @@ import subprocess
 from types import ModuleType
 from typing import TYPE_CHECKING, Iterator, List, Optional, Sequence, Tuple
 
+from ..drawing import svg
 from ..runner import ToolError, lacking, on_path, seen, work_folder
+from .charts.figure import Figure
+from .markdown import paragraphs_of
+from .matter import Matter
+from .page import View, limits_of
+from .tables import Table
 
 if TYPE_CHECKING:
     from docx.text.paragraph import Paragraph
-
-    from .charts.figure import Figure
-    from .matter import Matter
-    from .tables import Table
 
 FORMATS = ("html", "docx", "pdf")
 BROWSERS = ("chromium", "chromium-browser", "google-chrome", "chrome")
@@ -99,11 +101,9 @@ def check_docx() -> ModuleType:
 class Word:
     """A document of Word, part by part."""
 
-    def __init__(self, matter: "Matter") -> None:
-        from . import page
-
+    def __init__(self, matter: Matter) -> None:
         self.docx = check_docx()
-        self.matter, self.view = matter, page.View(matter)
+        self.matter, self.view = matter, View(matter)
         self.document = self.docx.Document()
         style = self.document.styles["Normal"]
         style.font.name, style.font.size = "Arial", self.docx.shared.Pt(10)
@@ -136,8 +136,6 @@ class Word:
 
     def first(self) -> None:
         """The finding, the analyst's text, the figures, the summary and the limits."""
-        from .markdown import paragraphs_of
-
         self.heading(self.view.headline, 0)
         self.paragraph(" · ".join(self.view.meta))
         for line in self.matter.changes:
@@ -167,11 +165,11 @@ class Word:
             self.document.add_picture(io.BytesIO(picture), width=self.docx.shared.Inches(WIDE))
         self.paragraph(" ".join(filter(None, (note, f"Source: {self.matter.head.version}, {tasks}."))))
 
-    def charts(self) -> Iterator["Figure"]:
+    def charts(self) -> Iterator[Figure]:
         """The figures behind the picture of the network."""
         yield from self.view.figures
 
-    def table(self, table: "Table", level: int = 2) -> None:
+    def table(self, table: Table, level: int = 2) -> None:
         """A table, at most so many of its rows."""
         self.heading(f"{self.view.numbers[table.key]}. {table.title}", level)
         self.paragraph(table.unit)
@@ -202,9 +200,7 @@ class Word:
 
     def limits(self) -> None:
         """The limits in whole, and the evidence."""
-        from . import page
-
-        text = page.limits_of(self.view)
+        text = limits_of(self.view)
         self.heading("What this says and what not", 1)
         for part in text:
             self.paragraph(part)
@@ -224,10 +220,8 @@ def readable(text: str) -> str:
     return seen(text.replace("\u2068", "").replace("\u2069", "").replace("\u00a0", " "))
 
 
-def docx_of(matter: "Matter") -> bytes:
+def docx_of(matter: Matter) -> bytes:
     """The report as a document of Word."""
-    from ..drawing import svg
-
     word = Word(matter)
     word.first()
     style, picture = svg.style_of(), word.view.picture

@@ -206,7 +206,7 @@ class Gathering:
         journal = journal_of(self.program, self.names, self.args.journal)
         self.verdict = verdict_of(self.program, self.payments)
         place = {(debt.debtor, debt.creditor, str(debt.class_)): at for at, debt in enumerate(self.debts)}
-        is_played = self.verdict.lawful and len(self.debts) <= LIMITS[STANDARD].debts
+        is_played = self.verdict.is_lawful and len(self.debts) <= LIMITS[STANDARD].debts
         self.frames = frames_of(read_journal(journal, place)) if is_played else None
 
     def matter(self) -> Matter:

@@ -2,7 +2,7 @@
 order."""
 import dataclasses
 import functools
-from typing import Dict, List, NamedTuple, Optional, Sequence, Set, Tuple
+from typing import TYPE_CHECKING, Dict, List, Mapping, NamedTuple, Optional, Sequence, Set, Tuple
 
 from clearing_client.records import BreakingCut, Harm, Payment, Ruin, Saving
 from clearing_client.steady import MARK, Place, decided_by_one
@@ -12,8 +12,10 @@ from ..drawing.lettering import short
 from ..fullnames import FullNames
 from ..money import Money, Scale
 from ..texts import Bank, due_of, given_by, shortfall_of
-from .costs import Costs
 from .journal import Frame
+
+if TYPE_CHECKING:
+    from .costs import Costs
 
 WORDS_TO_TWELVE = (
     "none",
@@ -60,7 +62,7 @@ class Verdict(NamedTuple):
     """What `clearing replay` says of the journal: whether it is lawful and makes these payments, its line, and
     words."""
 
-    lawful: bool
+    is_lawful: bool
     line: str
     words: str
 
@@ -136,7 +138,7 @@ class Matter:
     ruins: List[Ruin]
     harms: List[Harm]
     cuts: List[BreakingCut]
-    costs: Optional[Costs]
+    costs: "Optional[Costs]"
     scenarios: Optional[List[Scenario]]
     changed: List[Change]
     frames: Optional[List[Frame]]
@@ -244,6 +246,25 @@ class Matter:
 def plain(state: str) -> str:
     """A state without gridlock, as a task tells it that looks at the least payments alone."""
     return "contagion" if state == "gridlock" else state
+
+
+class Moved(NamedTuple):
+    """Banks that stand otherwise than before: those that are newly in default, those that are so no more, and those
+    with the other label."""
+
+    fallen: List[str]
+    saved: List[str]
+    other: List[str]
+
+
+def moved(before: Mapping[str, str], after: Mapping[str, str]) -> Moved:
+    """The banks whose states are others than before, in the order of those after; gridlock is contagion."""
+    found = Moved([], [], [])
+    for name, state in after.items():
+        if plain(state) != plain(before[name]):
+            group = found.fallen if before[name] == "sound" else found.saved if state == "sound" else found.other
+            group.append(name)
+    return found
 
 
 def saving_of(saving: Saving, saves: List[str], less: Optional[int]) -> Rescue:

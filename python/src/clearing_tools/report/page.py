@@ -20,6 +20,7 @@ from .charts import breaking, ruin, scenarios, shortfalls
 from .charts import network as network_chart
 from .charts.figure import Data, Figure
 from .matter import Matter, counted
+from .parts import MANY_BANKS, MOST_PARTS, Part, most_each, parts_of_banks, with_parts
 from .summary import headline, summary
 
 if TYPE_CHECKING:
@@ -156,28 +157,28 @@ class View:
         more = ["stands", *(["cases"] if self.cases else []), "banks"]
         return {**figures, **{key: f"Table {at}" for at, key in enumerate(more, 1)}}
 
-    def each(self) -> Iterator[tables.Part]:
+    def each(self) -> Iterator[Part]:
         """The part of each bank."""
-        return tables.parts_of_banks(self.matter)
+        return parts_of_banks(self.matter)
 
     @property
     def is_many(self) -> bool:
         """Whether the part of one bank is shown at a time."""
-        return len(self.matter.banks) > tables.MANY_BANKS
+        return len(self.matter.banks) > MANY_BANKS
 
     @property
     def few_parts(self) -> str:
         """Which banks have a part, where not all have."""
-        if len(self.matter.banks) <= tables.MOST_PARTS:
+        if len(self.matter.banks) <= MOST_PARTS:
             return ""
-        half = f"the {tables.MOST_PARTS // 2:,}"
+        half = f"the {MOST_PARTS // 2:,}"
         which = f"{half} that leave most unpaid, and {half} to which most stays unpaid"
         return f"Of {len(self.matter.banks):,} banks a part stands here for {which}."
 
     @property
     def is_cut(self) -> bool:
         """Whether the part of a bank may have some of its debts alone."""
-        return tables.most_each(self.matter) < len(self.matter.debts)
+        return most_each(self.matter) < len(self.matter.debts)
 
     @property
     def files(self) -> Dict[str, str]:
@@ -190,7 +191,7 @@ class View:
         }
         if self.matter.costs:
             tables_of_page["costs"] = Data(CostBound._fields, list(self.matter.costs.banks))
-        return {key: tables.csv_of(data) for key, data in tables_of_page.items()}
+        return {key: tables.csv_of(data) for key, data in tables_of_page.items() if data is not None}
 
     @property
     def page_title(self) -> str:
@@ -237,7 +238,7 @@ class Texts:
     def __init__(self, matter: Matter, markup: "Type[Markup]") -> None:
         self.matter, self.markup = matter, markup
         self.icons = {state: markup(svg.icon(state, words)) for state, words in tables.STATE_WORDS.items()}
-        self.with_parts = tables.with_parts(matter)
+        self.with_parts = with_parts(matter)
         self.links = {bank.name: self.link_to(at, bank.name) for at, bank in enumerate(matter.banks)}
 
     def link_to(self, at: int, name: str) -> "Markup":

@@ -16,7 +16,7 @@ from clearing_client.steady import MARK, Place, half
 from .. import texts
 from ..labels import count, listed
 from ..texts import Bank, given_by, shortfall_of
-from .matter import Change, Rescue, counted, plain, saving_of
+from .matter import Change, Rescue, counted, moved, plain, saving_of
 from .program import Program
 
 MOST_TRIED = 40  # of the rescues
@@ -103,18 +103,8 @@ class Stands:
 
     def against(self, states: Dict[str, str]) -> str:
         """What is otherwise than in the first."""
-        saved = [name for name, state in states.items() if state == "sound" and self.base[name] != "sound"]
-        fallen = [name for name, state in states.items() if state != "sound" and self.base[name] == "sound"]
-        other = [
-            name
-            for name, state in states.items()
-            if "sound" not in (state, self.base[name]) and state != self.base[name]
-        ]
-        parts = [
-            f"{self.few(names)} {words}"
-            for names, words in ((fallen, "in default"), (saved, "sound"), (other, "with the other label"))
-            if names
-        ]
+        words = ("in default", "sound", "with the other label")
+        parts = [f"{self.few(names)} {what}" for names, what in zip(moved(self.base, states), words) if names]
         return "; ".join(parts) or "the same banks"
 
     def few(self, names: List[str]) -> str:

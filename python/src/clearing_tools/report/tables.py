@@ -1,10 +1,8 @@
 """The tables of a report, as text for its page and its documents, and as numbers for files of CSV."""
 import csv
 import io
-from typing import TYPE_CHECKING, Container, Dict, Iterator, List, NamedTuple, Optional, Sequence, Tuple, Union
+from typing import Dict, List, NamedTuple, Optional, Sequence, Tuple, Union
 
-from clearing_client.limits import LIMITS, STANDARD
-from clearing_client.records import Payment
 from clearing_client.steady import MARK, NOTE, WHY
 
 from ..labels import percent, shown
@@ -12,18 +10,9 @@ from ..money import Scale
 from ..texts import Bank, due_of, given_by, shortfall_of
 from . import stands
 from .charts.figure import Data
-from .matter import Matter, begun, counted, plain
+from .charts.scenarios import Case, cases_of, shown_of
+from .matter import Matter, begun, counted, moved
 
-if TYPE_CHECKING:
-    from .charts.scenarios import Case
-
-MANY_BANKS = 40  # above that the part of one bank is shown at a time
-LEAST_EACH, MOST_ROWS = 10, 40_000
-"""Of a network beyond the standard limits so many debts at least stand in the part of a bank on each side, and about so
-many in all."""
-MOST_PARTS = 1000
-"""With more banks, those have a part that leave most unpaid, and those to which most stays unpaid: half of these
-each."""
 MOST_PRINTED = 100  # with more banks those in default alone stand on paper, and of them
 MOST_FALLEN = 200  # those that leave most unpaid
 NONE, NOT = "0", "\u2013"  # none, and not applicable
@@ -74,7 +63,7 @@ class Table(NamedTuple):
     rows: List[Row]
     foot: Optional[Row]
     tasks: str
-    data: Data
+    data: Optional[Data] = None
     note: str = ""
 
 
@@ -282,8 +271,6 @@ SCENARIO_HEADS = [
 
 def scenarios_table(matter: Matter) -> Table:
     """The scenarios in numbers, with the labels that change."""
-    from .charts.scenarios import cases_of, shown_of
-
     cases = cases_of(matter)
     scale = matter.money.scale_of([part for case in cases for part in (case.total, case.cash)])
     base = {bank.name: bank.state for bank in matter.banks}
@@ -293,20 +280,13 @@ def scenarios_table(matter: Matter) -> Table:
         change = against(matter, base, case.banks) if case is not cases[0] else ""
         cells = [*scenario_cells(case, scale), Cell(change, "st")]
         rows.append(Row(None, case.name, "", cells, case.name in printed))
-    data = Data(
-        ("scenario", "in_default", "own_fundamentals", "contagion", "unpaid", "kept_less_by_all"),
-        [
-            (case.name, *[cell.value if cell.value is not None else cell.text for cell in row.cells[:5]])
-            for case, row in zip(cases, rows)
-        ],
-    )
     unit = f"Labels and amounts by scenario, {scale.words}"
     left = sum(not row.is_printed for row in rows)
     note = f"On paper stand the {len(rows) - left - 1} of which most stays unpaid; all are on the page." if left else ""
-    return Table("cases", "The scenarios in numbers", unit, SCENARIO_HEADS, rows, None, "stress", data, note)
+    return Table("cases", "The scenarios in numbers", unit, SCENARIO_HEADS, rows, None, "stress", note=note)
 
 
-def scenario_cells(case: "Case", scale: Scale) -> List[Cell]:
+def scenario_cells(case: Case, scale: Scale) -> List[Cell]:
     """The numbers of a scenario: who is in default, by which labels, what stays unpaid, and what all keep less."""
     states = [bank.state for bank in case.banks]
     default, alone = len(states) - states.count("sound"), states.count("fundamental")
@@ -321,143 +301,12 @@ def scenario_cells(case: "Case", scale: Scale) -> List[Cell]:
 
 def against(matter: Matter, base: Dict[str, str], banks: Sequence[Bank]) -> str:
     """Which banks stand otherwise than as things are."""
-    fresh = [bank.name for bank in banks if bank.state != "sound" and base[bank.name] == "sound"]
-    saved = [bank.name for bank in banks if bank.state == "sound" and base[bank.name] != "sound"]
-    other = [
-        bank.name
-        for bank in banks
-        if "sound" not in (bank.state, base[bank.name]) and plain(base[bank.name]) != bank.state
-    ]
-    parts = [(fresh, "newly in default"), (saved, "no longer in default"), (other, "with the other label")]
+    words = ("newly in default", "no longer in default", "with the other label")
+    groups = moved(base, {bank.name: bank.state for bank in banks})
     return (
-        "; ".join(f"{words}: {matter.listed(names)}" for names, words in parts if names)
+        "; ".join(f"{what}: {matter.listed(names)}" for names, what in zip(groups, words) if names)
         or "the same banks, the same labels"
     )
-
-
-# Each bank.
-
-
-class Debt(NamedTuple):
-    """What a bank owes or is owed: the other bank (nothing is the world outside), its class, and amounts as text."""
-
-    other: Optional[str]
-    class_: str
-    claim: str
-    paid: str
-    unpaid: str
-    is_short: bool
-
-
-class Debts(NamedTuple):
-    """The debts of one side, with their sums; where the network has very many, those of which most stays unpaid, and
-    the rest as one: how many they are, and their amounts."""
-
-    rows: List[Debt]
-    claim: str
-    paid: str
-    unpaid: str
-    rest: Optional[Debt] = None
-    more: int = 0
-
-
-class Part(NamedTuple):
-    """The part of the page for one bank: its sentence in amounts, what it owes and is owed."""
-
-    place: int
-    bank: Bank
-    cash: str
-    receipts: str
-    estate: str
-    rule: str
-    equity: str
-    owes: Debts
-    is_owed: Debts
-
-
-def most_each(matter: Matter) -> int:
-    """How many debts of one side stand in the part of a bank: all, unless the network passes the standard limits."""
-    if len(matter.debts) <= LIMITS[STANDARD].debts:
-        return len(matter.debts)
-    return LEAST_EACH if len(matter.banks) > MOST_PARTS else max(LEAST_EACH, MOST_ROWS // len(matter.banks))
-
-
-def with_parts(matter: Matter) -> Container[str]:
-    """The banks that have a part: all, unless there are very many. Where nothing stays unpaid, it is those that owe and
-    are owed most."""
-    if len(matter.banks) <= MOST_PARTS:
-        return matter.place
-    owes: Dict[str, Tuple[int, int]] = {bank.name: (shortfall_of(bank), due_of(bank)) for bank in matter.banks}
-    owed: Dict[str, Tuple[int, int]] = dict.fromkeys(owes, (0, 0))
-    for debt in matter.debts:
-        unpaid, claim = owed[debt.creditor]
-        owed[debt.creditor] = unpaid + debt.claim - debt.paid, claim + debt.claim
-    half = MOST_PARTS // 2
-    return {name for side in (owes, owed) for name in sorted(side, key=lambda one: side[one], reverse=True)[:half]}
-
-
-def largest_of(debts: Sequence[Payment], most: int) -> Tuple[List[Payment], List[Payment]]:
-    """The debts of which most stays unpaid, then the largest, in file order; and the others."""
-    if len(debts) <= most:
-        return list(debts), []
-    order = sorted(range(len(debts)), key=lambda at: (debts[at].paid - debts[at].claim, -debts[at].claim, at))
-    largest = set(order[:most])
-    return [debts[at] for at in sorted(largest)], [debt for at, debt in enumerate(debts) if at not in largest]
-
-
-def debts_of(matter: Matter, debts: Sequence[Payment], side: int, outside: Tuple[int, int] = (0, 0)) -> Debts:
-    """What a bank owes, or is owed, to the last unit; first what it owes outside, with what is paid of it."""
-    number = matter.money.number
-    rows = []
-    largest, others = largest_of(debts, most_each(matter))
-    if outside[0]:
-        owed, paid = outside
-        rows.append(Debt(None, "first", number(owed), number(paid), number(owed - paid), paid < owed))
-    for debt in largest:
-        unpaid = debt.claim - debt.paid
-        rows.append(
-            Debt(
-                debt.creditor if side else debt.debtor,
-                str(debt.class_),
-                number(debt.claim),
-                number(debt.paid),
-                number(unpaid),
-                unpaid > 0,
-            )
-        )
-    claim, paid = sum(debt.claim for debt in debts), sum(debt.paid for debt in debts)
-    sums = number(claim), number(paid), number(claim - paid)
-    if not others:
-        return Debts(rows, *sums)
-    claim, paid = sum(debt.claim for debt in others), sum(debt.paid for debt in others)
-    rest = Debt(None, "", number(claim), number(paid), number(claim - paid), claim > paid)
-    return Debts(rows, *sums, rest, len(others))
-
-
-def parts_of_banks(matter: Matter) -> Iterator[Part]:
-    """The parts of the page for each bank that has one, in file order."""
-    chosen = with_parts(matter)
-    owes: Dict[str, List[Payment]] = {bank.name: [] for bank in matter.banks}
-    is_owed: Dict[str, List[Payment]] = {bank.name: [] for bank in matter.banks}
-    for debt in matter.debts:
-        owes[debt.debtor].append(debt)
-        is_owed[debt.creditor].append(debt)
-    money = matter.money
-    for at, bank in enumerate(matter.banks):
-        if bank.name not in chosen:
-            continue
-        cash = matter.cash[bank.name]
-        amounts = (
-            money(cash),
-            money(bank.estate - cash),
-            money(bank.estate),
-            matter.rules[bank.name],
-            money(bank.equity),
-        )
-        outside = outside_of(bank), bank.outside_paid
-        yield Part(
-            at, bank, *amounts, debts_of(matter, owes[bank.name], 1, outside), debts_of(matter, is_owed[bank.name], 0)
-        )
 
 
 def cut_names(matter: Matter, most: int = 24) -> List[str]:

@@ -2,7 +2,7 @@
 table."""
 from typing import Dict, List, NamedTuple, Sequence, Tuple
 
-from ...drawing.svg import Svg
+from ...drawing.svg import Svg, steps_to
 
 PHONE, HALF, WIDE, WHOLE = 352, 576, 704, 1184
 SMALL, MIDDLE, LARGE = "w-s", "w-m", "w-l"
@@ -35,8 +35,6 @@ def half(small: Svg, middle: Svg, large: Svg) -> Dict[str, Svg]:
 
 def scale_of(most: float, left: float, right: float, count: int = 4) -> Tuple[List[float], List[float]]:
     """The steps of a scale from 0, and their places between two places."""
-    from ...drawing.svg import steps_to
-
     steps = steps_to(most, count)
     return steps, [left + (right - left) * step / steps[-1] for step in steps]
 
