@@ -346,7 +346,8 @@ def limits_of(view: View) -> List[str]:
 
     texts = Texts(view.matter, Markup)
     markup = templates().get_template("limits.html").render(view=view, matter=view.matter, texts=texts)
-    return [html.unescape(re.sub("<[^>]*>", "", part)) for part in re.findall("<p>(.*?)</p>", markup, re.DOTALL)]
+    parts = re.findall("<p>(.*?)</p>", markup, re.DOTALL)
+    return [html.unescape(re.sub("<[^>]*>", "", part.replace("\n", " "))) for part in parts]
 
 
 def data_text(view: View) -> str:
