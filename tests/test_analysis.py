@@ -21,7 +21,7 @@ import quick  # noqa: E402
 
 from clearing_client.records import Debt, Harm  # noqa: E402
 from clearing_tools import runner  # noqa: E402
-from clearing_tools.analysis import breaking, draws, impact, queries  # noqa: E402
+from clearing_tools.analysis import breaking, impact, losses, queries  # noqa: E402
 from clearing_tools.drawing import style  # noqa: E402
 from clearing_tools.evidence import audit  # noqa: E402
 
@@ -219,7 +219,7 @@ class Analysis(Case):
     def test_draws_have_the_moments_that_are_asked_for(self):
         known = {"A": 0, "B": 1, "C": 2}
         table = self.file("moments.csv", "of,mean,deviation,cut,A,B\ncut,300,100,1,0.5,-0.5\nA,50,10,0.5,1,0.25\nB,7,2,-0.5,0.25,1\n")
-        source, chance = draws.Moments(table, known), random.Random(1)
+        source, chance = losses.Moments(table, known), random.Random(1)
         columns = list(zip(*(source.draw(chance) for _ in range(20_000))))
         for column, mean, deviation in zip(columns, (300, 50, 7), (100, 10, 2)):
             self.assertAlmostEqual(statistics.fmean(column) / mean, 1, delta=0.01)

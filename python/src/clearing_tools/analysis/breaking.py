@@ -42,6 +42,7 @@ from clearing_client.table import Table
 from .. import cases, cli
 from ..drawing import style
 from ..drawing.tokens import LIGHT
+from ..exports import workbook
 from ..runner import ProgramRuns, ToolError, command, processors, work_folder
 from . import queries
 
@@ -239,4 +240,4 @@ def main() -> None:
     if pyplot:
         curve = Curve(shocks, depths_of(network, most, hit), most, list(map(called, names)))
         style.save(curve.draw(pyplot, words), args.picture, folders=False)
-    queries.write(("bank", kind, "state"), zip(names, shocks, states), args.output)
+    workbook.write_table(("bank", kind, "state"), zip(names, shocks, states), args.output)

@@ -29,7 +29,7 @@ Example:
 from __future__ import annotations
 
 from types import ModuleType
-from typing import TYPE_CHECKING, Dict, Iterable, List, Set, Tuple
+from typing import TYPE_CHECKING, Dict, Iterable, List, NamedTuple, Set, Tuple
 
 from clearing_client.records import Harm, Ruin
 from clearing_client.results import Impact
@@ -37,12 +37,15 @@ from clearing_client.results import Impact
 from .. import cases, cli
 from ..drawing import style
 from ..drawing.tokens import LIGHT
+from ..exports import workbook
 from ..fullnames import FullNames
 from ..runner import ProgramRuns, command
 from . import queries
 
 if TYPE_CHECKING:
+    from matplotlib.axes import Axes
     from matplotlib.figure import Figure
+    from matplotlib.image import AxesImage
 
 
 def ranking_of(banks: Iterable[Ruin]) -> List[Ruin]:
@@ -62,9 +65,24 @@ def fallen_of(network: queries.Network, pairs: Iterable[Harm]) -> List[Tuple[str
     ]
 
 
-def draw(pyplot: ModuleType, impact: Impact, ranking: List[Ruin], most: int, names: FullNames) -> Figure:
-    """A square for each pair: a row for each bank that is ruined, a column for each that keeps less then, in the
-    order of the ranking."""
+class Heat(NamedTuple):
+    """A heat map: the banks of its rows, each of which is ruined, and their cash; the banks of its columns, which keep
+    less then; how much less, by the two banks; who is then in default, and was not before; and the message."""
+
+    rows: List[str]
+    cash: Dict[str, int]
+    columns: List[str]
+    lost: Dict[str, Dict[str, int]]
+    fallen: Set[Tuple[str, str]]
+    message: str
+
+    def share(self, bank: str, of: str) -> float:
+        """How much less a bank keeps where another is ruined, as a share of the cash that is gone."""
+        return self.lost[bank].get(of, 0) / self.cash[bank]
+
+
+def heat_of(impact: Impact, ranking: List[Ruin], most: int) -> Heat:
+    """A row for each bank that is ruined, a column for each that keeps less then, in the order of the ranking."""
     shown = [record for record in ranking if record.cash][:most]
     lost: Dict[str, Dict[str, int]] = {record.bank: {} for record in shown}
     fallen: Set[Tuple[str, str]] = set()
@@ -85,38 +103,23 @@ def draw(pyplot: ModuleType, impact: Impact, ranking: List[Ruin], most: int, nam
     left_out = f", the {len(shown)} that hurt others most" if len(shown) < count else ""
     message = f"Where a bank (row) loses all its cash, who keeps less (column){left_out}"
     rows, cash = [record.bank for record in shown], {record.bank: record.cash for record in shown}
-    return heat_map(pyplot, rows, columns, cash, lost, fallen, message, names)
+    return Heat(rows, cash, columns, lost, fallen, message)
 
 
-def heat_map(
-    pyplot: ModuleType,
-    rows: List[str],
-    columns: List[str],
-    cash: Dict[str, int],
-    lost: Dict[str, Dict[str, int]],
-    fallen: Set[Tuple[str, str]],
-    message: str,
-    names: FullNames,
-) -> Figure:
-    """The squares with their names, which are cut where they are long, and the message above them."""
+def draw(pyplot: ModuleType, heat: Heat, names: FullNames) -> Figure:
+    """The heat map with the names of its banks, which are cut where they are long, and the message above it."""
+    rows, columns = heat.rows, heat.columns
     left, below = (style.column_for([names(bank) for bank in banks], 7, 2.0) for banks in (rows, columns))
     wide = max(left + 0.4 + 0.2 * max(len(columns), 6) + 1.5, 6.0)
-    head = 0.24 * len(style.lines_for(message, wide - 0.3, 12, True)) + 0.4
+    head = 0.24 * len(style.lines_for(heat.message, wide - 0.3, 12, True)) + 0.4
     tall = head + 0.2 * max(len(rows), 6) + below + 0.4
     figure, axes = pyplot.subplots(figsize=(wide, tall))
     right = left + 0.4 + 0.2 * max(len(columns), 6)
     bottom = (below + 0.3) / tall
     figure.subplots_adjust(left=(left + 0.4) / wide, right=right / wide, bottom=bottom, top=1 - head / tall)
-    style.title(figure, message, "A dot: then in default, and not before.")
+    style.title(figure, heat.message, "A dot: then in default, and not before.")
     if rows:
-        cells = [[lost[bank].get(of, 0) / cash[bank] for of in columns] for bank in rows]
-        shades = [LIGHT["paid-fill"], LIGHT["ink"]]
-        colours = pyplot.matplotlib.colors.LinearSegmentedColormap.from_list("unpaid", shades)
-        colours.set_under(LIGHT["panel"])
-        image = axes.imshow(cells, cmap=colours, vmin=1e-12, vmax=1, aspect="auto", interpolation="nearest")
-        dots = [(x, y) for y, bank in enumerate(rows) for x, of in enumerate(columns) if (bank, of) in fallen]
-        if dots:
-            axes.scatter(*zip(*dots), s=14, color=LIGHT["contagion"], edgecolors=LIGHT["paper"], linewidths=0.7)
+        image = fill(pyplot, axes, heat)
         bar = figure.add_axes([(right + 0.2) / wide, bottom, 0.12 / wide, 1 - (head + below + 0.3) / tall])
         title = "share of the cash that is gone"
         figure.colorbar(image, cax=bar, label=title, format=lambda share, _: f"{100 * share:.0f}%")
@@ -125,6 +128,20 @@ def heat_map(
     axes.set_yticks(range(len(rows)), of_rows, fontsize=7)
     axes.set_xticks(range(len(columns)), of_columns, rotation=90, fontsize=7)
     return figure
+
+
+def fill(pyplot: ModuleType, axes: Axes, heat: Heat) -> AxesImage:
+    """Draws a square for each pair, and a dot where a bank is then in default; gives the squares."""
+    cells = [[heat.share(bank, of) for of in heat.columns] for bank in heat.rows]
+    shades = [LIGHT["paid-fill"], LIGHT["ink"]]
+    colours = pyplot.matplotlib.colors.LinearSegmentedColormap.from_list("unpaid", shades)
+    colours.set_under(LIGHT["panel"])
+    image = axes.imshow(cells, cmap=colours, vmin=1e-12, vmax=1, aspect="auto", interpolation="nearest")
+    pairs = ((x, y, bank, of) for y, bank in enumerate(heat.rows) for x, of in enumerate(heat.columns))
+    dots = [(x, y) for x, y, bank, of in pairs if (bank, of) in heat.fallen]
+    if dots:
+        axes.scatter(*zip(*dots), s=14, color=LIGHT["contagion"], edgecolors=LIGHT["paper"], linewidths=0.7)
+    return image
 
 
 @command()
@@ -142,9 +159,10 @@ def main() -> None:
     impact = queries.answer_of(runs, ["impact", *files], Impact)
     ranking, names = ranking_of(impact.banks), cases.marked_names_of(taken.case)
     if args.matrix:
-        queries.write(("bank", "of", "lost"), (pair[:3] for pair in impact.pairs if pair.lost), args.matrix)
+        workbook.write_table(("bank", "of", "lost"), (pair[:3] for pair in impact.pairs if pair.lost), args.matrix)
     if args.defaults:
-        queries.write(("bank", "of", "state"), fallen_of(queries.network_of(runs, files), impact.pairs), args.defaults)
+        fallen = fallen_of(queries.network_of(runs, files), impact.pairs)
+        workbook.write_table(("bank", "of", "state"), fallen, args.defaults)
     if pyplot:
-        style.save(draw(pyplot, impact, ranking, args.most, names), args.picture, folders=False)
-    queries.write(("bank", "cash", "own", "others", "defaults"), ranking, args.ranking)
+        style.save(draw(pyplot, heat_of(impact, ranking, args.most), names), args.picture, folders=False)
+    workbook.write_table(("bank", "cash", "own", "others", "defaults"), ranking, args.ranking)

@@ -3,20 +3,16 @@ of the program's texts."""
 import json
 import os
 import tempfile
-from typing import (
-    Callable, Dict, Iterable, Iterator, List, Mapping, NamedTuple, Optional, Sequence, Tuple, Type, TypeVar,
-)
+from typing import Callable, Dict, Iterable, Iterator, List, NamedTuple, Sequence, Tuple, Type, TypeVar
 
 from clearing_client import texts
 from clearing_client.errors import TextError
 from clearing_client.format import MAX_SCENARIOS
 from clearing_client.limits import MOST
 from clearing_client.records import Debt, Standing
-from clearing_client.results import Check, Defaults, Outcomes
+from clearing_client.results import Check, Outcomes
 from clearing_client.table import Table
 
-from .. import files
-from ..exports.workbook import content_of
 from ..runner import ProgramRuns, ToolError, groups_of, program
 
 T = TypeVar("T")
@@ -30,9 +26,6 @@ class Network(NamedTuple):
     rules: List[str]
     outside: List[int]
     debts: List[Debt]
-
-
-Tables = Mapping[str, Iterable[Sequence[object]]]
 
 
 def answer_of(runs: ProgramRuns, words: Sequence[str], kind: Type[T]) -> T:
@@ -61,16 +54,6 @@ def spare_of(network: Network) -> Dict[str, int]:
         spare[debtor] -= claim
         spare[creditor] += claim
     return spare
-
-
-def defaults_of(runs: ProgramRuns, words: Sequence[str]) -> Table[Standing]:
-    """How the banks stand, by `clearing defaults`: a table of standings."""
-    return answer_of(runs, ["defaults", *words, "--workers", "1"], Defaults).standings
-
-
-def in_default(standings: Table[Standing]) -> Dict[int, str]:
-    """The places of the banks in default, each with its state."""
-    return {place: state for place, state in enumerate(standings.column("state")) if state != "sound"}
 
 
 def scenario_text(cut: int, losses: Iterable[Tuple[str, int]]) -> bytes:
@@ -162,16 +145,3 @@ def tables_of(output: bytes) -> Iterator[Table[Standing]]:
             except TextError as fault:
                 raise ToolError(f"{program()} did not print what `clearing stress` does") from fault
             at = output.find(mark, at + 1)
-
-
-def write(
-    header: Sequence[str], records: Iterable[Sequence[object]], output: Optional[str], title: str = "table"
-) -> None:
-    """Writes a table whole, or to standard output where there is no name; as a workbook where its ending asks for one.
-    It ends with 5 where it cannot be written."""
-    write_tables({title: [header, *records]}, output)
-
-
-def write_tables(tables: Tables, output: Optional[str]) -> None:
-    """Writes tables, each its records by its title."""
-    files.put(content_of(tables, output), output, status=5, folders=False)

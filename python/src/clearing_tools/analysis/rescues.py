@@ -27,6 +27,7 @@ import fractions
 from clearing_client.results import Rescues
 
 from .. import cases, cli
+from ..exports import workbook
 from ..runner import ProgramRuns, command
 from . import queries
 
@@ -45,7 +46,7 @@ def main() -> None:
     if args.saved:
         rank = {bank.bank: at for at, bank in enumerate(ranking)}
         saved = sorted(list(rescues.saved), key=lambda pair: rank[pair.bank])
-        queries.write(("bank", "of"), saved, args.saved)
+        workbook.write_table(("bank", "of"), saved, args.saved)
     records = ((bank.bank, bank.added, bank.also_saved, bank.still_short) for bank in ranking)
-    queries.write(("bank", "added", "also_saved", "still_short"), records, args.output)
+    workbook.write_table(("bank", "added", "also_saved", "still_short"), records, args.output)
     cases.tell_unsteady(taken.case)

@@ -11,9 +11,9 @@ from clearing_client.stands import Stands, stands
 from clearing_client.steady import MARK, NOTE, unsteady
 
 from .. import cases, cli, files
-from ..analysis.queries import write_tables
 from ..drawing import style
 from ..drawing.tokens import LIGHT
+from ..exports.workbook import write_tables
 from ..fullnames import FullNames
 from ..runner import ToolError
 from . import side_by_side

@@ -8,7 +8,7 @@ from decimal import Decimal
 from typing import TYPE_CHECKING, Iterable, Mapping, Optional, Sequence, Union
 
 from .. import files
-from ..runner import ToolError, StrPath, lacking
+from ..runner import StrPath, ToolError, lacking
 
 if TYPE_CHECKING:
     from openpyxl.cell import Cell
@@ -96,3 +96,16 @@ def content_of(tables: Tables, name: Optional[StrPath]) -> Union[str, bytes]:
     """What a file of some tables has: a workbook by its ending, else comma-separated records, an empty line between
     tables."""
     return book_of(tables) if is_book(name) else "\n".join(map(files.csv_text, tables.values()))
+
+
+def write_tables(tables: Tables, output: Optional[str]) -> None:
+    """Writes tables whole, each its records by its title, or to standard output where there is no name. It ends with 5
+    where they cannot be written."""
+    files.put(content_of(tables, output), output, status=5, folders=False)
+
+
+def write_table(
+    header: Sequence[str], records: Iterable[Sequence[object]], output: Optional[str], title: str = "table"
+) -> None:
+    """Writes one table in the same way."""
+    write_tables({title: [header, *records]}, output)
