@@ -44,7 +44,7 @@ from ..imports.made_case import currency_in, date_in
 from ..labels import word_shown
 from ..runner import ToolError, command, shown
 from ..texts import number, read_accounts, records_in
-from . import answers, shocks
+from . import compare, ensemble, shocks, stands
 from .folder import files_in
 
 STEPS = {"left_out": "left out", "summed": "summed", "rounded": "rounded", "converted": "converted"}
@@ -210,9 +210,9 @@ TASKS = {
     "check": Task("whether it is as described, and whether its files have faults", add_folder, check),
     "refresh": Task("describes its files anew", add_description, refresh),
     "scenarios": Task("scenarios of a sheet", shocks.add_scenarios, shocks.take_scenarios),
-    "compare": Task("two cases side by side", answers.add_compare, answers.compare_cases),
-    "ensemble": Task("what tasks say over many networks", answers.add_ensemble, answers.ask_many),
-    "stands": Task("which banks are elsewhere where something is varied", answers.add_stands, answers.ask_stands),
+    "compare": Task("two cases side by side", compare.add_compare, compare.compare_cases),
+    "ensemble": Task("what tasks say over many networks", ensemble.add_ensemble, ensemble.ask_many),
+    "stands": Task("which banks are elsewhere where something is varied", stands.add_stands, stands.ask_stands),
 }
 
 

@@ -179,7 +179,7 @@ class Playing(NamedTuple):
 def drawing_of(desk: Desk, cleared: Cleared, place: Mapping[str, int]) -> Tuple[str, Drawn]:
     """The network drawn, as the report has it, for the player: its form, and the drawing."""
     flows = texts.flows_of(cleared.payments, cleared.banks)
-    form = "graph" if network.is_small(flows, cleared.banks) else "matrix"
+    form = "graph" if network.is_small(cleared.banks) else "matrix"
 
     def link(bank: texts.Bank) -> str:
         return f"bank-{place[bank.name]}"

@@ -10,7 +10,7 @@ FORMS = ("graph", "matrix")
 TITLE, BELOW, WORDS = 18, 14, 12
 
 
-def is_small(flows: Sequence[Flow], banks: Sequence[Bank]) -> bool:
+def is_small(banks: Sequence[Bank]) -> bool:
     """Whether the network is drawn as a ring."""
     return len(banks) <= MOST_BANKS
 
@@ -30,7 +30,7 @@ def drawing_of(
 ) -> Drawn:
     """A network of few banks as a ring, else as a matrix. `link` gives what a bank links to in the report, and `say`
     what a bank of a name is called."""
-    form = form or ("graph" if is_small(flows, banks) else "matrix")
+    form = form or ("graph" if is_small(banks) else "matrix")
     work = ring.draw if form == "graph" else blocks.draw
     return work(flows, banks, money, scale_for(flows, banks, money), link, say)
 

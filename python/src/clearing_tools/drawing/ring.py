@@ -67,6 +67,11 @@ def side_of(bank: Bank, most: int) -> float:
     return max(LEAST_SIDE, MOST_SIDE * math.sqrt(unpaid / most)) if bank.state != "sound" and most else LEAST_SIDE
 
 
+def height_of(count: int) -> float:
+    """How tall a ring of so many places is: one with many has names that stand across it."""
+    return HEIGHT if count <= MOST_LEVEL else HEIGHT + 120
+
+
 def places_of(banks: Sequence[Bank], has_outside: bool) -> Dict[Optional[str], Place]:
     """Where each bank stands, clockwise from the top in the order of the file; last the world outside, where
     something is owed there."""
@@ -75,7 +80,7 @@ def places_of(banks: Sequence[Bank], has_outside: bool) -> Dict[Optional[str], P
     sides = [side_of(bank, most) for bank in banks]
     if has_outside:
         names, sides = [*names, None], [*sides, 18.0]
-    tall = HEIGHT if len(names) <= MOST_LEVEL else HEIGHT + 120
+    tall = height_of(len(names))
     places: Dict[Optional[str], Place] = {}
     for at, (name, side) in enumerate(zip(names, sides)):
         angle = 2 * math.pi * at / max(len(names), 1) - math.pi / 2
@@ -223,14 +228,8 @@ class Ring:
     def __init__(
         self, flows: Sequence[Flow], banks: Sequence[Bank], money: Money, scale: Scale, link: Link, say: Say
     ) -> None:
-        self.flows, self.banks, self.money, self.scale, self.link, self.say = (
-            list(flows),
-            banks,
-            money,
-            scale,
-            link,
-            say,
-        )
+        self.flows, self.banks = list(flows), banks
+        self.money, self.scale, self.link, self.say = money, scale, link, say
         self.places = places_of(banks, any(flow.creditor is None for flow in flows))
         self.most = max(map(unpaid_on, flows), default=0)
         self.is_level = len(self.places) <= MOST_LEVEL
@@ -240,7 +239,7 @@ class Ring:
     def curves_of(self) -> List[Curve]:
         """The curves of the flows; of two between two banks the one of which less stays unpaid is bent less."""
         unpaid = {(flow.debtor, flow.creditor): (unpaid_on(flow), flow.debtor) for flow in self.flows}
-        middle, curves = (HEIGHT if self.is_level else HEIGHT + 120) / 2, []
+        middle, curves = height_of(len(self.places)) / 2, []
         for flow in self.flows:
             back = unpaid.get((flow.creditor or "", flow.debtor))
             bent = BEND_BACK if back is not None and back > unpaid[flow.debtor, flow.creditor] else BEND
@@ -345,7 +344,7 @@ class Ring:
         """The box that the drawing fills: taller than the ring where names above or below it need that."""
         tops = [name.top - STEP for name in self.laid.values()]
         ends = [name.top + STEP * (len(name.lines) - 1) + 6 for name in self.laid.values()]
-        tall = HEIGHT if self.is_level else HEIGHT + 120
+        tall = height_of(len(self.places))
         return [0.0, min([0.0, *tops]), WIDTH, max([tall, *ends])]
 
 

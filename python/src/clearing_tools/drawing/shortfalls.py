@@ -8,11 +8,10 @@ In:   DEFAULTS     what `clearing defaults` prints
       --case       the case that the texts are of: its banks file, its labels, its unit and its currency; the banks that
                    one unit decides have a mark
 Out:  a bar for each bank in default, the longest shortfall first: what it pays of all it owes, in grey, and what it
-      leaves unpaid,
-      in the accent. With --payments two bars: what it has, cash and receipts, and below it what it owes, outside
-      first and then class by
-      class, paid and unpaid. The mark beside a name is the bank's state. --unit and --currency say what a unit of
-      account is worth. The kind of picture is the ending of OUTPUT: .svg, .png or .pdf.
+      leaves unpaid, in the accent. With --payments two bars: what it has, cash and receipts, and below it what it
+      owes, outside first and then class by class, paid and unpaid. The mark beside a name is the bank's state. --unit
+      and --currency say what a unit of account is worth. The kind of picture is the ending of OUTPUT: .svg, .png or
+      .pdf.
 
 Example:
     clearing defaults --banks banks.csv --debts debts.csv >defaults.csv

@@ -94,11 +94,8 @@ class Svg:
             '<rect class="ground" width="100%" height="100%"/>' if ground else ""
         )
         name = ' xmlns="http://www.w3.org/2000/svg"' if style else ""
-        words = (
-            f'role="img" aria-label="{text_of(self.label)}"'
-            if self.kind == "chart"
-            else f'role="group" aria-label="{text_of(self.label)}"'
-        )
+        role = "img" if self.kind == "chart" else "group"
+        words = f'role="{role}" aria-label="{text_of(self.label)}"'
         return f'<svg{name} class="{self.kind}" {size} {words}>{inner}{"".join(self.parts)}</svg>'
 
 

@@ -36,5 +36,4 @@ def pixels(name: str) -> float:
     return 16 * float(tokens_of("light")[name].removesuffix("rem"))
 
 
-LIGHT, DARK, GREY = map(colours_of, THEMES)
-FONT = tokens_of("light")["font"]
+LIGHT, DARK = map(colours_of, ("light", "dark"))

@@ -9,16 +9,14 @@ In:   PAYMENTS   what `clearing clear` prints: debtor,creditor,class,claim,paid 
       --case     the case that the texts are of: its banks file, its labels, its unit and its currency; the banks that
                  one unit decides have a mark
 Out:  an SVG picture on standard output, or in the file of --output: a ring of up to 40 banks, above that a matrix of
-      debtors by
-      creditors; --form chooses one. --only-unpaid leaves out the debts that are paid in full, --around BANK
-      all debts but those of one bank; banks without a debt left are left out then. --unit and --currency say what a
-      unit is worth.
+      debtors by creditors; --form chooses one. --only-unpaid leaves out the debts that are paid in full, --around
+      BANK all debts but those of one bank; banks without a debt left are left out then. --unit and --currency say
+      what a unit is worth.
 
 What stays unpaid has the accent, what is paid is thin and grey. The shape of a bank and the colour of its edge are
-its state. In the ring
-banks stand in the order of the file; a debt is as wide as what stays unpaid of it, and the area of a bank is what it
-leaves unpaid. In the
-matrix each square is what stays unpaid from one bank to another: those with most by name, all others in blocks.
+its state. In the ring banks stand in the order of the file; a debt is as wide as what stays unpaid of it, and the area
+of a bank is what it leaves unpaid. In the matrix each square is what stays unpaid from one bank to another: those with
+most by name, all others in blocks.
 
 Example:
     clearing clear --banks banks.csv --debts debts.csv >payments.csv

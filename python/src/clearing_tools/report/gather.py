@@ -49,15 +49,14 @@ from clearing_client import description
 from clearing_client.case import Case
 from clearing_client.format import MAX_KEEP
 from clearing_client.limits import LIMITS, MOST, STANDARD, words_of
-from clearing_client.results import Bounds, Breaking, Check, Impact, Rescues, Result
-from clearing_client.results import Verdict as Judged
+from clearing_client.results import Bounds, Breaking, Check, Impact, Rescues, Result, Verdict as Judged
 
 from .. import cases, cli, files, labels, texts
-from ..drawing.stress_map import read_stress
 from ..evidence import versions
 from ..fullnames import add_labels
 from ..money import add_money
 from ..runner import ToolError, command, printed_by, seen, tool_name, version, work_folder
+from ..stress_text import read_stress
 from . import document, page, stands
 from .costs import costs_of
 from .journal import frames_of, read_journal

@@ -32,6 +32,13 @@ def report_style() -> str:
     return (FOLDER / "report.css").read_text(encoding="utf-8")
 
 
+def check_forms(name: str, text: str) -> None:
+    """Fails where a module imports or exports in another form than those that are read here."""
+    others = re.findall(r"^[ \t]*(?:import|export)\b.*", EXPORT.sub("", IMPORT.sub("", text)), re.MULTILINE)
+    if others:
+        raise ValueError(f"{name}: this line is in no form that is read: {others[0]}")
+
+
 def modules() -> Dict[str, str]:
     """The modules by their names."""
     return {path.name: path.read_text(encoding="utf-8") for path in sorted(SCRIPTS.glob("*.mjs"))}
@@ -42,6 +49,7 @@ def needed(name: str) -> Dict[str, str]:
     found, texts = modules(), {}  # type: Dict[str, str], Dict[str, str]
 
     def visit(one: str) -> None:
+        check_forms(one, found[one])
         for _, other in IMPORT.findall(found[one]):
             if other not in texts:
                 visit(other)

@@ -88,7 +88,7 @@ def rows_of(flows: List[Flow]) -> List[Tuple[str, str, int, int, int]]:
 def picture_of(matter: Matter) -> Picture:
     """The picture of the network."""
     flows = flows_of(matter.debts, matter.banks)
-    form = "graph" if network.is_small(flows, matter.banks) else "matrix"
+    form = "graph" if network.is_small(matter.banks) else "matrix"
     link = lambda bank: f"bank-{matter.place[bank.name]}"  # noqa: E731
     drawn = network.drawing_of(flows, matter.banks, matter.money, form, link, matter.marked)
     scale = network.scale_for(flows, matter.banks, matter.money)
