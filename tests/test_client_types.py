@@ -2,9 +2,11 @@
 import ast
 import builtins
 import configparser
+import pathlib
 import re
 import shutil
 import subprocess
+import tempfile
 import unittest
 
 from common import ROOT, Case
@@ -22,6 +24,20 @@ def functions_in(paths):
         for node in ast.walk(ast.parse(path.read_text(encoding="utf-8"))):
             if isinstance(node, ast.FunctionDef):
                 yield f"{path.relative_to(ROOT)}:{node.lineno} {node.name}", node
+
+
+def idle_in(paths, words):
+    """The functions of some files, outside their classes, that nothing calls: none of the files has the name beside the definition,
+    imports it from there or has an attribute of its name, and it is none of some words besides."""
+    trees = {path: ast.parse(path.read_text(encoding="utf-8")) for path in paths}
+    nodes = [node for tree in trees.values() for node in ast.walk(tree)]
+    attributes = {node.attr for node in nodes if isinstance(node, ast.Attribute)} | words
+    imported = {(node.module.split(".")[-1], one.name) for node in nodes if isinstance(node, ast.ImportFrom) and node.module for one in node.names}
+    for path, tree in trees.items():
+        named = {node.id for node in ast.walk(tree) if isinstance(node, ast.Name)} | attributes
+        for node in tree.body:
+            if isinstance(node, ast.FunctionDef) and node.name not in named and (path.stem, node.name) not in imported:
+                yield f"{path.name}:{node.lineno} {node.name}"
 
 
 @unittest.skipUnless(MYPY, "without mypy (Debian's package mypy)")
@@ -109,6 +125,19 @@ class Sources(unittest.TestCase):
                     riddles += [f"{path.name}:{node.lineno}"] if not re.match(r"\(?(parser, )?args\b", ast.unparse(node.targets[0])) else []
         self.assertEqual(riddles, [])
         self.assertGreater(parsed, 15)
+
+    def test_each_function_has_a_caller(self):
+        """Or it is a command, or a template calls it."""
+        others = [ROOT / "python/pyproject.toml", *(ROOT / "python/src").rglob("*.html")]
+        words = {word for path in others for word in re.findall(r"\w+", path.read_text(encoding="utf-8"))}
+        self.assertEqual(list(idle_in(SOURCES, words)), [])
+        with tempfile.TemporaryDirectory() as name:
+            paths = [pathlib.Path(name, file) for file in ("one.py", "other.py", "third.py")]
+            paths[0].write_text("def here():\n    pass\n\n\ndef idle():\n    here()\n\n\ndef there():\n    pass\n")
+            paths[1].write_text("from .one import there\nfrom . import third\n\nthere()\nthird.idle()\n")
+            self.assertEqual(list(idle_in(paths[:1], set())), ["one.py:5 idle", "one.py:9 there"])
+            paths[2].write_text("def there():\n    pass\n")
+            self.assertEqual(list(idle_in(paths, set())), ["third.py:1 there"], "of attributes the name alone does not tell")
 
     def test_a_function_has_some_40_lines(self):
         lines = {name: node.end_lineno - node.lineno + 1 for name, node in functions_in([*SOURCES, *SCRIPTS])}

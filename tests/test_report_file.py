@@ -175,7 +175,7 @@ class TheFile(Report):
     def test_without_d3_the_page_is_made_without_its_script(self):
         out = self.folder / "bare.html"
         words = [*map(str, files_of(TWELVE)), "--out", str(out)]
-        program = f"import sys; sys.argv = ['report.py', *{words!r}]; from clearing_tools.report import gather; gather.D3 = []; gather.main()"
+        program = f"import sys; sys.argv = ['report.py', *{words!r}]; from clearing_tools.drawing import web; from clearing_tools.report import gather; web.D3 = []; gather.main()"
         done = subprocess.run([PYTHON, "-B", "-c", program], cwd=PACKAGES, capture_output=True, encoding="utf-8")
         self.assertEqual((done.returncode, done.stdout), (0, ""))
         self.assertIn("node-d3", done.stderr)

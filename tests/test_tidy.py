@@ -9,7 +9,7 @@ from decimal import Decimal
 
 from common import ROOT, Case, clearing, tool
 
-from clearing_tools import texts
+from clearing_tools import stress_text, texts
 from clearing_tools.runner import ToolError
 
 HUB = ["--banks", ROOT / "examples/hub/banks.csv", "--debts", ROOT / "examples/hub/debts.csv"]
@@ -211,7 +211,7 @@ class Texts(Case):
         bounds = self.file("b.csv", self.printed("bounds", "--banks", ring[0], "--debts", ring[1]))
         self.assertEqual(texts.read_gridlock(bounds), {"A", "B", "C"})
         stress = self.file("s.csv", self.printed("stress", *HUB, "--scenarios", self.file("s.toml", SCENARIOS)))
-        self.assertEqual([one.name for one in texts.read_stress(stress)], [" half ", " half "])
+        self.assertEqual([one.name for one in stress_text.read_stress(stress)], [" half ", " half "])
 
     def test_what_they_refuse(self):
         text = self.printed("defaults", *HUB)
@@ -221,7 +221,6 @@ class Texts(Case):
             ("standings", self.printed("clear", *HUB), "line 1: not the header"),
             ("payments", text, "line 1: not the header"),
             ("gridlock", text, "it has no line bank,wave"),
-            ("stress", text, "not what `stress` prints"),
             ("gridlock", "bank,wave,gridlock,equity\nA,0,maybe,0\n", "line 2: 'maybe'"),
             ("payments", "debtor,creditor,class,claim,paid\nA,B,1,10,x\n", "line 2: 'x' is not a number"),
         ]:

@@ -5,10 +5,10 @@ import unittest
 
 from common import PACKAGES, ROOT, needs_checkout
 
-from clearing_tools import wording
+import wording
 
 TOOLS = PACKAGES / "clearing_tools"
-SEEN = ("report", "drawing", "desk", "labels.py", "wording.py", "money.py")
+SEEN = ("report", "drawing", "desk", "labels.py", "money.py")
 
 
 def files(*kinds):
@@ -16,7 +16,7 @@ def files(*kinds):
     for name in SEEN:
         place = TOOLS / name
         for path in [place] if place.is_file() else sorted(place.rglob("*")):
-            if path.suffix in kinds and path.name != "wording.py":
+            if path.suffix in kinds:
                 yield path
 
 

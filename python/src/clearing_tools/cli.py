@@ -53,14 +53,6 @@ def parser_with(doc: Optional[str]) -> argparse.ArgumentParser:
     return Parser(description=doc, formatter_class=argparse.RawDescriptionHelpFormatter)
 
 
-def files_parser(doc: Optional[str]) -> argparse.ArgumentParser:
-    """A parser of words that takes the two files of a network, with this text as its help."""
-    parser = parser_of(doc)
-    parser.add_argument("--banks", metavar="FILE", required=True, help="the banks file")
-    parser.add_argument("--debts", metavar="FILE", required=True, help="the debts file")
-    return parser
-
-
 def case_parser(doc: Optional[str]) -> argparse.ArgumentParser:
     """A parser of words that takes a case: a folder, or the two files of a network. `cases.take_case` reads it."""
     parser = parser_of(doc)

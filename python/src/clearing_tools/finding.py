@@ -17,6 +17,8 @@ PACKAGES, ROOT = (pathlib.Path(__file__).resolve().parents[above] for above in (
 STANDS = PACKAGES == ROOT / "python" / "src"
 """Whether the packages stand in a repository, or in an installation: elsewhere nothing that is in ROOT is run or
 asked."""
+BUILT = ROOT / "crates/clear_main/out/clear_main"
+"""The program that a repository has built."""
 PACKED = PACKAGES / "clearing_client/bin/clearing"
 """The program of a wheel that has one."""
 StrPath = Union[str, "os.PathLike[str]"]
@@ -99,6 +101,12 @@ def program() -> str:
         raise ToolError(f"{name} is a first look, which is not proved; name the proved program by CLEARING", 2)
     # The script begins a build also where it was named.
     return built(path) if STANDS and same_file(path, beside) else path
+
+
+def program_file(name: str) -> str:
+    """The file that runs where a program is called by a name: of the repository's script what it has built."""
+    is_script = STANDS and same_file(name, ROOT / "clearing")
+    return str(BUILT) if is_script and BUILT.is_file() else name
 
 
 def version() -> str:

@@ -17,23 +17,14 @@ import time
 from typing import Callable, Iterator, NoReturn, Optional
 
 from .finding import (
-    BUILD,
-    PACKED,
-    ROOT,
-    STANDS,
-    WAYS,
-    StrPath,
-    digest_of,
-    on_path,
-    printed_by,
-    program,
-    same_file,
+    BUILD, BUILT, PACKED, ROOT, STANDS, WAYS, StrPath, digest_of, on_path, printed_by, program, program_file, same_file,
     version,
 )
-from .running import Limits, Progress, ProgramRuns, groups_of, limited_memory, processors
+from .running import Limits, ProgramRuns, Progress, groups_of, limited_memory, processors
 from .saying import THIS, UNSEEN, ToolError, lacking, say, seen, shown, tool_name
 
 __all__ = [
+    "BUILT",
     "PACKED",
     "ROOT",
     "STANDS",
@@ -53,6 +44,7 @@ __all__ = [
     "printed_by",
     "processors",
     "program",
+    "program_file",
     "run_command",
     "same_file",
     "say",

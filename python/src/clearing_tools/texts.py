@@ -4,16 +4,15 @@ import csv
 import io
 from typing import Collection, Dict, Iterator, List, Mapping, NamedTuple, Optional, Sequence, Set, Tuple, Type, TypeVar
 
-from clearing_client import format as form
-from clearing_client import texts
+from clearing_client import format as form, texts
 from clearing_client.errors import TextError
 from clearing_client.fields import long_fields
 from clearing_client.records import Payment, Standing, Wave
-from clearing_client.results import Clearing, Defaults, Outcome, Result, Stress
+from clearing_client.results import Clearing, Defaults, Result
 from clearing_client.table import Table
 
 from .files import text_of
-from .runner import ToolError, StrPath
+from .runner import StrPath, ToolError
 
 DEFAULTS_HEADERS = (texts.STANDINGS_1, texts.STANDINGS_2)
 # The states, the worst last. Gridlock is contagion at the least payments alone: `clearing bounds` names such banks.
@@ -147,14 +146,6 @@ def read_gridlock(name: StrPath) -> Set[str]:
     except TextError as fault:
         raise ToolError(f"{name}: {fault}") from fault
     return {wave.bank for wave in waves if wave.gridlock}
-
-
-def read_stress(name: StrPath) -> Tuple[Outcome, ...]:
-    """The outcomes of the scenarios, each with its name, payments and standings."""
-    result = read_result(name)
-    if not isinstance(result, Stress):
-        raise ToolError(f"{name}: not what `stress` prints")
-    return result.scenarios
 
 
 def records_in(name: StrPath, *headers: str) -> Tuple[List[str], List[Tuple[int, List[str]]]]:

@@ -63,15 +63,9 @@ def debts_by(base: Base, cleared: Cleared) -> Tuple[Entries, Entries]:
     return owes, owed
 
 
-def account_of(base: Base, cleared: Cleared, bank: int) -> Account:
-    """The account of a bank in a state. Fails where it does not come to what the program says that the bank keeps or
-    leaves unpaid."""
-    owes, owed = debts_by(base, cleared)
-    return account_by(base, cleared, bank, owes, owed.get(bank, []))
-
-
 def account_by(base: Base, cleared: Cleared, bank: int, owes: Entries, owed: List[Entry]) -> Account:
-    """The same, where the debts are sorted by banks already."""
+    """The account of a bank in a state, of what it owes and is owed. Fails where it does not come to what the program
+    says that the bank keeps or leaves unpaid."""
     one = cleared.banks[bank]
     outside = one.outside or 0
     claims = sum(debt.claim for debt in owed)

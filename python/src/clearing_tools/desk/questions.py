@@ -242,7 +242,7 @@ def ruin_of(desk: Desk, runs: OwnRuns, place: Place, words: List[str], state: St
     text = Scenarios([Scenario("ruin", 0, {name: before.left[bank]})]).to_toml(plain=True)
     [after] = queries.stress(runs, str(place.path), words, [text.encode()], lambda standings: list(standings))
     less = [keeps(was) - keeps(now) for was, now in zip(before.banks, after)]
-    falls = [was.state == "sound" != now.state for was, now in zip(before.banks, after)]
+    falls = [was.state == "sound" and now.state != "sound" for was, now in zip(before.banks, after)]
     return {
         "kind": "one",
         "bank": bank,

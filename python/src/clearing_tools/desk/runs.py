@@ -5,13 +5,9 @@ import tempfile
 import threading
 from collections import OrderedDict
 from concurrent.futures import ThreadPoolExecutor
-from typing import (
-    Callable, Dict, Iterable, Iterator, List, Mapping, NamedTuple, Optional, Sequence, Tuple, Type, TypeVar, Union,
-)
+from typing import Callable, Dict, Iterable, List, Mapping, NamedTuple, Optional, Sequence, Tuple, Type, TypeVar, Union
 
-from clearing_client import errors
-from clearing_client import program as client
-from clearing_client import texts as parser
+from clearing_client import errors, program as client, texts as parser
 from clearing_client.case import Case
 from clearing_client.format import MAX_SCENARIOS
 from clearing_client.limits import STANDARD, of_counts, words_of
@@ -26,6 +22,7 @@ from ..evidence import audit, shock
 from ..money import Money
 from ..runner import StrPath
 from . import state as states
+from .built import scenario_of
 from .changes import Original
 from .hints import hint_of
 from .state import Base, State
@@ -243,7 +240,7 @@ class Desk:
     def add_scenario(self, form: Mapping[str, object]) -> int:
         """Takes a scenario into the list, and gives its number. The program judges it as a file of one."""
         with self.lock:
-            built = states.scenario_of(self.base, form)
+            built = scenario_of(self.base, form)
             if len(self.base.scenarios) >= MAX_SCENARIOS:
                 raise states.InvalidFieldError(f"a file has {MAX_SCENARIOS} scenarios at most", "scenario-name")
             self.base = self.base._replace(scenarios=(*self.base.scenarios, built))
@@ -341,8 +338,3 @@ def check_left(after: Outcome, left: Sequence[int]) -> None:
         receipts[creditor] += paid
     if [estate - got for estate, got in zip(after.standings.column("estate"), receipts.values())] != list(left):
         raise runner.ToolError("what a shock leaves of the cash is not what `clearing stress` says")
-
-
-def lines_from(cleared: Cleared) -> Iterator[Tuple[int, Payment]]:
-    """The debts of a state, each with its key."""
-    return zip(cleared.keys, cleared.payments)

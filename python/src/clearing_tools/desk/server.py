@@ -50,9 +50,9 @@ from clearing_client.case import Case
 from clearing_client.errors import ClearingError
 
 from .. import cases, cli, runner
+from ..drawing import web
 from ..fullnames import add_labels, read_labels
 from ..money import add_money
-from ..report.gather import D3
 from ..runner import ToolError, command, lacking, work_folder
 from . import session, takeaway
 from .app import Application
@@ -191,7 +191,7 @@ def bottle_of() -> ModuleType:
 
 def library() -> Optional[bytes]:
     """The library d3, nothing where it is not there."""
-    for name in D3:
+    for name in web.D3:
         with contextlib.suppress(OSError):
             return pathlib.Path(name).read_bytes()
     return None

@@ -16,7 +16,9 @@ from clearing_client.limits import MOST
 
 from .. import runner
 from . import state as states
+from .built import scenario_of
 from .runs import Desk, RefusedChangeError
+from .saved import as_json, from_json
 from .state import Base
 from .steps import MOST_KEPT, MOST_NOTE, Shelf, Steps
 
@@ -45,10 +47,10 @@ def saved(desk: Desk, files: Mapping[str, bytes], steps: Steps, shelf: Shelf, at
         "session": VERSION,
         "scenarios": [[one.name, one.cut, sorted(one.losses.items())] for one in desk.base.scenarios[desk.given:]],
         "states": [
-            {"name": one.name, "note": one.note, "state": states.as_json(steps.state(desk.base, one.state))}
+            {"name": one.name, "note": one.note, "state": as_json(steps.state(desk.base, one.state))}
             for one in states_kept
         ],
-        "atHand": states.as_json(steps.state(desk.base, at_hand)),
+        "atHand": as_json(steps.state(desk.base, at_hand)),
     }
     text = json.dumps(document, ensure_ascii=False, indent=1).encode("utf-8", "surrogatepass")
     return archive_of({**{f"case/{name}": data for name, data in files.items()}, STATES: text + b"\n"})
@@ -98,7 +100,7 @@ def opened(desk: Desk, document: Mapping[str, object], steps: Steps, shelf: Shel
 
 def taken(desk: Desk, value: object, steps: Steps) -> int:
     """The number of a state of a session, once the program has cleared it."""
-    state = states.from_json(desk.base, value)
+    state = from_json(desk.base, value)
     desk.cleared(state)
     return steps.put(state)
 
@@ -126,7 +128,7 @@ def with_scenarios(base: Base, scenarios: object) -> Base:
     for one in scenarios:
         name, cut, losses = one if isinstance(one, list) and len(one) == 3 else ("", "", None)
         form = {"name": name, "cut": str(cut), "losses": [[pair[0], str(pair[1])] for pair in pairs_of(losses)]}
-        base = base._replace(scenarios=(*base.scenarios, states.scenario_of(base, form)))
+        base = base._replace(scenarios=(*base.scenarios, scenario_of(base, form)))
     return base
 
 

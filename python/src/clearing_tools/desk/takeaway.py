@@ -16,6 +16,7 @@ from .. import runner
 from ..fullnames import text_of
 from . import changes, session, view
 from . import state as states
+from .built import scenarios_toml
 from .runs import AT_ONCE, Desk, Place
 from .state import State
 from .steps import Shelf, Steps
@@ -47,7 +48,7 @@ class Takeaway:
         if what == "scenario":
             return self.changes_toml(state)
         if what == "scenarios":
-            return self.source(None) + states.scenarios_toml(self.desk.base, self.desk.base.scenarios)
+            return self.source(None) + scenarios_toml(self.desk.base, self.desk.base.scenarios)
         with Place(self.desk.runs) as place:
             self.desk.files(place, state)
             make: Dict[str, Callable[[Place, State], bytes]] = {

@@ -31,9 +31,4 @@ def colours_of(theme: str) -> Dict[str, str]:
     return {name: value for name, value in tokens_of(theme).items() if value.startswith("#")}
 
 
-def pixels(name: str) -> float:
-    """A size of letters, in pixels where the root has 16."""
-    return 16 * float(tokens_of("light")[name].removesuffix("rem"))
-
-
 LIGHT, DARK = map(colours_of, ("light", "dark"))

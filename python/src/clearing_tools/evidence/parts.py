@@ -9,7 +9,6 @@ from .. import runner
 from ..runner import ROOT, ToolError
 from . import audit, shock
 
-BUILT = ROOT / "crates/clear_main/out/clear_main"
 UNREAD, SUMS, BANKS, JOURNAL, TABLES, PROGRAM = 3, 4, 5, 6, 7, 8
 
 # The texts that each folder has beside the inputs and what is printed.
@@ -301,21 +300,15 @@ def write_copy(copy: IO[bytes], block: bytes) -> None:
 def at_hand() -> Optional[str]:
     """The program that the tools came with, where it is there: that of the wheel; in a repository what was built, and
     not the script that may build it; and beside installed tools the program itself."""
-    beside = BUILT if (ROOT / "crates").is_dir() else ROOT / "clearing"
+    beside = runner.BUILT if (ROOT / "crates").is_dir() else ROOT / "clearing"
     places = [runner.PACKED, *([beside] if runner.STANDS else [])]
     return next((str(place) for place in places if os.access(place, os.X_OK)), None)
 
 
-def program_file() -> str:
-    """The file of the program that runs: what was built, where it is the repository's script that was named."""
-    named = runner.program()
-    return str(BUILT) if runner.same_file(named, ROOT / "clearing") and BUILT.exists() else named
-
-
 def program_sum() -> str:
-    """The checksum of that file; it ends with 2 where it cannot be read."""
+    """The checksum of the program that runs; it ends with 2 where it cannot be read."""
     try:
-        with open(program_file(), "rb") as file:
+        with open(runner.program_file(runner.program()), "rb") as file:
             if not stat.S_ISREG(os.fstat(file.fileno()).st_mode):
                 raise OSError(0, "it is no file")
             return runner.digest_of(file)

@@ -12,7 +12,7 @@ from typing import BinaryIO, Iterator, List, NamedTuple, Optional, Sequence, Set
 from clearing_client import limits
 
 from .. import cases, files
-from ..runner import ROOT, STANDS, ToolError, digest_of, same_file, shown, tool_name
+from ..runner import ToolError, digest_of, program_file, shown, tool_name
 
 FILES = ("--banks", "--debts", "--scenarios", "--journal")
 """The options whose values are files that a job reads."""
@@ -121,9 +121,7 @@ def sum_of(name: str) -> str:
 
 def program_sum(program: str) -> str:
     """The checksum of the program; where that is the repository's script, of what it runs."""
-    built = ROOT / "crates/clear_main/out/clear_main"
-    is_script = STANDS and same_file(program, ROOT / "clearing") and built.is_file()
-    return sum_of(str(built) if is_script else program)
+    return sum_of(program_file(program))
 
 
 def key_of(digest: str, words: Sequence[str]) -> str:

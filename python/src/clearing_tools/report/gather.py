@@ -52,6 +52,7 @@ from clearing_client.limits import LIMITS, MOST, STANDARD, words_of
 from clearing_client.results import Bounds, Breaking, Check, Impact, Rescues, Result, Verdict as Judged
 
 from .. import cases, cli, files, labels, texts
+from ..drawing import web
 from ..evidence import versions
 from ..fullnames import add_labels
 from ..money import add_money
@@ -64,7 +65,6 @@ from .matter import Evidence, Given, Head, Matter, Scenario, Verdict
 from .program import Program, as_given, line_of, sum_of
 
 Answer = TypeVar("Answer", bound=Result)
-D3 = ["/usr/share/nodejs/d3/dist/d3.min.js", "/usr/share/javascript/d3/d3.min.js"]
 TESTS = {"liquidity": "liquidity test", "solvency": "solvency test"}
 
 
@@ -236,7 +236,7 @@ class Gathering:
 
 def library(named: Optional[str]) -> Optional[str]:
     """The library d3; nothing where it is not found, which is said, unless it was named."""
-    for name in [named] if named else D3:
+    for name in [named] if named else web.D3:
         try:
             with open(name, encoding="utf-8") as file:
                 text = file.read()

@@ -6,7 +6,7 @@ from typing import Callable, List, NamedTuple, Optional, Sequence, Type, TypeVar
 from clearing_client.results import Result
 
 from .. import labels, runner, texts
-from ..runner import ROOT, StrPath, ToolError, digest_of
+from ..runner import StrPath, ToolError, digest_of, program_file
 
 T = TypeVar("T")
 R = TypeVar("R", bound=Result)
@@ -81,9 +81,7 @@ class Program:
 
     def executable(self) -> pathlib.Path:
         """The file that is the program itself, where it is known."""
-        built = ROOT / "crates/clear_main/out/clear_main"
-        path = pathlib.Path(self.name)
-        return built if path.resolve() == ROOT / "clearing" and built.exists() else path
+        return pathlib.Path(program_file(self.name))
 
 
 def sum_of(path: StrPath) -> str:
