@@ -383,8 +383,3 @@ class Linter:
             records = list(named.values())
             for at, what in names.oddities(list(named)):
                 yield Fault(file, records[at].line, records[at].row, "name", "warning", what)
-
-
-def faults_of(banks: bytes, debts: bytes, limits: str = STANDARD, **third: bytes) -> List[Fault]:
-    """The faults of a banks file and a debts file, and of scenarios or a journal, given as bytes."""
-    return Linter(banks, debts, limits, **third).faults

@@ -1,6 +1,6 @@
 """Names and numbers in a picture: how wide a text is, how it is laid in lines, and where a name is cut."""
 import unicodedata
-from typing import List, Tuple
+from typing import List
 
 BOLD = 1.12  # how much wider bold letters are
 WIDTHS = {"mwMW@%…": 0.88, "frtI()[]/-": 0.4, "ijl.,:;|' ": 0.33, "0123456789": 0.64}
@@ -72,9 +72,3 @@ def short(text: str, most: int = 28) -> str:
     while len(words_kept) > 1 and len(words_kept[-1]) < LEAST_WORD:
         words_kept.pop()
     return " ".join(words_kept).rstrip(",;:-") + CUT
-
-
-def columns_of(names: List[str], size: float, least: float, most: float) -> Tuple[float, bool]:
-    """How wide a column of names is, within limits, and whether one of them is wider."""
-    widest = max((width_of(name, size, True) for name in names), default=least)
-    return min(max(widest, least), most), widest > most
