@@ -3,6 +3,7 @@ import json
 import os
 import pathlib
 import random
+import shutil
 import subprocess
 import sys
 import tempfile
@@ -24,7 +25,8 @@ from clearing_tools.desk import state as states  # noqa: E402
 from clearing_tools.desk.runs import Desk, Runs, base_of  # noqa: E402
 
 NETWORKS = 200
-SCRIPT = ROOT / "python/src/clearing_tools/desk/script/account.mjs"
+# The desk's modules, and those that it has from the report: they are served as if in one folder.
+SCRIPTS = [PACKAGES / "clearing_tools" / part for part in ("drawing/web/script", "desk/script")]
 # Wrong accounts, planted in the code: what is left out, counted twice or taken for something else.
 PLANTED = {
     "claims are not counted": ("base.banks[bank].cash + claims - one.owed", "base.banks[bank].cash - one.owed"),
@@ -199,7 +201,11 @@ class Accounts(unittest.TestCase):
             for bank in range(len(asked.net.banks)):
                 pairs.append([accounts.account_of(asked.base, found, bank) for found in (asked.found, asked.before)])
         given = json.dumps([[account.view() for account in pair] for pair in pairs])
-        script = LINES % json.dumps(SCRIPT.as_uri())
+        folder = tempfile.TemporaryDirectory()
+        self.addCleanup(folder.cleanup)
+        for part in SCRIPTS:
+            shutil.copytree(part, folder.name, dirs_exist_ok=True)
+        script = LINES % json.dumps(pathlib.Path(folder.name, "account.mjs").as_uri())
         words = ["node", "--input-type=module", "-e", script]
         done = subprocess.run(words, input=given, capture_output=True, encoding="utf-8")
         self.assertEqual((done.returncode, done.stderr), (0, ""))

@@ -1251,9 +1251,9 @@ class Attacks(Desk):
 class Script(Case):
     @needs("node")
     def test_the_modules_of_the_page(self):
-        done = subprocess.run(["node", "--test", str(ROOT / "tests/script/desk.test.mjs")], capture_output=True,
-            encoding="utf-8",
-                              env={**os.environ, "DESK": str(PACKAGES / "clearing_tools/desk/script")})
+        words = ["node", "--test", str(ROOT / "tests/script/desk.test.mjs")]
+        environment = {**os.environ, "PACKAGES": str(PACKAGES)}
+        done = subprocess.run(words, capture_output=True, encoding="utf-8", env=environment)
         self.assertEqual(done.returncode, 0, done.stdout[-3000:] + done.stderr[-2000:])
         self.assertGreaterEqual(int(re.search(r"^# pass ([0-9]+)$", done.stdout, re.MULTILINE)[1]), 12)
 

@@ -63,7 +63,7 @@ class Words(unittest.TestCase):
         found = []
         for path in files(".html", ".mjs"):
             # What stands behind // says what the script does.
-            text = re.sub(r"(?m)^\s*//.*$|/\*\*.*?\*/", "", path.read_text(encoding="utf-8"))
+            text = re.sub(r"(?m)^\s*//.*$|/\*\*(?s:.*?)\*/", "", path.read_text(encoding="utf-8"))
             found += [(path.name, fault) for fault in wording.faults_in(text, on_page=True)]
         for path in [*files(".py"), *sorted((TOOLS / "analysis").glob("*.py"))]:
             found += [(path.name, fault) for text in texts_of(path) for fault in wording.faults_in(text, on_page=True)]

@@ -1,14 +1,24 @@
 // The modules of the desk's page that need no page, by node's own runner: node --test tests/script/desk.test.mjs
 import assert from "node:assert/strict";
+import fs from "node:fs";
+import os from "node:os";
 import path from "node:path";
 import test from "node:test";
 import { fileURLToPath, pathToFileURL } from "node:url";
 
+// The desk's modules beside those that it has from the report, in one folder as they are served.
 const here = path.dirname(fileURLToPath(import.meta.url));
-const folder = process.env.DESK ?? path.join(here, "../../python/src/clearing_tools/desk/script");
+const packages = process.env.PACKAGES ?? path.join(here, "../../python/src");
+const folder = fs.mkdtempSync(path.join(os.tmpdir(), "desk-"));
+for (const part of ["drawing/web/script", "desk/script"]) {
+  fs.cpSync(path.join(packages, "clearing_tools", part), folder, { recursive: true });
+}
+process.on("exit", () => fs.rmSync(folder, { recursive: true }));
 const load = (name) => import(pathToFileURL(path.join(folder, `${name}.mjs`)).href);
 const { Money, apart, cut, listed, many, minus, number, signed, word } = await load("numbers");
-const { aligned, atGreatest, changedBanks, differs, fallen, rows, saved, sorted, soundAtGreatest, sums, told } = await load("compare");
+const compare = await load("compare");
+const { aligned, atGreatest, changedBanks, differs, fallen, rows, saved, sorted } = compare;
+const { soundAtGreatest, sums, told } = compare;
 const { Pairs, flowsOf } = await load("pairs");
 const { Line } = await load("line");
 const { matches } = await load("find");
@@ -17,11 +27,31 @@ const { newest } = await load("newest");
 /** A state of banks, each with its state, cash, owed, paid and equity. */
 const view = (...banks) => {
   const column = (place) => banks.map((bank) => bank[place]);
-  return { state: column(0), cash: column(1), left: column(1), owed: column(2), paid: column(3), equity: column(4), rule: banks.map(() => "order"),
-    outside: banks.map((bank) => bank[5] ?? 0), outsidePaid: banks.map((bank) => bank[6] ?? 0), lost: banks.map((bank) => bank[7] ?? 0) };
+  return {
+    state: column(0),
+    cash: column(1),
+    left: column(1),
+    owed: column(2),
+    paid: column(3),
+    equity: column(4),
+    rule: banks.map(() => "order"),
+    outside: banks.map((bank) => bank[5] ?? 0),
+    outsidePaid: banks.map((bank) => bank[6] ?? 0),
+    lost: banks.map((bank) => bank[7] ?? 0),
+  };
 };
-const BASE = view(["sound", 10, 5, 5, 5], ["contagion", 1, 9, 4, 0], ["sound", 3, 0, 0, 7], ["fundamental", 2, 8, 2, 0]);
-const NOW = view(["fundamental", 1, 5, 1, 0], ["sound", 9, 9, 9, 1], ["sound", 3, 0, 0, 3], ["fundamental", 2, 8, 2, 0]);
+const BASE = view(
+  ["sound", 10, 5, 5, 5],
+  ["contagion", 1, 9, 4, 0],
+  ["sound", 3, 0, 0, 7],
+  ["fundamental", 2, 8, 2, 0],
+);
+const NOW = view(
+  ["fundamental", 1, 5, 1, 0],
+  ["sound", 9, 9, 9, 1],
+  ["sound", 3, 0, 0, 3],
+  ["fundamental", 2, 8, 2, 0],
+);
 const NAMES = ["A", "B", "C", "D"];
 
 test("amounts are written to the last digit", () => {
@@ -39,16 +69,35 @@ test("a difference has its sign", () => {
 
 test("amounts are exact in the currency of a case", () => {
   const plain = (text) => text.replaceAll("\u00a0", " ");
-  const thousand = new Money("1000", "EUR", true), cents = new Money("0.01", "EUR", true), units = new Money(), third = new Money("20000", "EUR", true);
-  assert.deepEqual([6_078_334, 10_000, 1, 0, -150_000].map((amount) => plain(thousand.say(amount))),
-    ["EUR 6.08 billion", "EUR 10 million", "EUR 1,000", "EUR 0", "EUR −150 million"]);
-  assert.deepEqual([thousand.whole.words, thousand.whole.number(1_831_667), thousand.whole.number(-10_000)], ["EUR thousand", "1,831,667", "−10,000"]);
-  assert.deepEqual([9_007_199_254_740_991, 5, -105].map((amount) => cents.exact(amount)), ["90,071,992,547,409.91", "0.05", "−1.05"]);
+  const thousand = new Money("1000", "EUR", true);
+  const cents = new Money("0.01", "EUR", true);
+  const units = new Money();
+  const third = new Money("20000", "EUR", true);
+  assert.deepEqual([6_078_334, 10_000, 1, 0, -150_000].map((amount) => plain(thousand.say(amount))), [
+    "EUR 6.08 billion", "EUR 10 million", "EUR 1,000", "EUR 0", "EUR −150 million",
+  ]);
+  assert.deepEqual(
+    [thousand.whole.words, thousand.whole.number(1_831_667), thousand.whole.number(-10_000)],
+    ["EUR thousand", "1,831,667", "−10,000"],
+  );
+  assert.deepEqual([9_007_199_254_740_991, 5, -105].map((amount) => cents.exact(amount)), [
+    "90,071,992,547,409.91",
+    "0.05",
+    "−1.05",
+  ]);
   assert.equal(cents.whole.number(123_456), "1,234.56");
   assert.equal(third.exact(3), "60,000");
   // An account is to the last unit, in the largest scale in which that is short.
-  const accounts = [["100000", -11_761, "EUR million", "−1,176.1"], ["20000", 3, "EUR million", "0.06"], ["200000", 5, "EUR million", "1.0"], ["1000000", 7, "EUR million", "7"],
-    ["1", 1234, "EUR", "1,234"], ["10", -5, "EUR thousand", "−0.05"], ["2.5", 3, "EUR", "7.5"], ["1000000000", 2, "EUR billion", "2"]];
+  const accounts = [
+    ["100000", -11_761, "EUR million", "−1,176.1"],
+    ["20000", 3, "EUR million", "0.06"],
+    ["200000", 5, "EUR million", "1.0"],
+    ["1000000", 7, "EUR million", "7"],
+    ["1", 1234, "EUR", "1,234"],
+    ["10", -5, "EUR thousand", "−0.05"],
+    ["2.5", 3, "EUR", "7.5"],
+    ["1000000000", 2, "EUR billion", "2"],
+  ];
   for (const [unit, units_, words, text] of accounts) {
     const { whole } = new Money(unit, "EUR", true);
     assert.deepEqual([whole.words, whole.number(units_)], [words, text], unit);
@@ -56,9 +105,21 @@ test("amounts are exact in the currency of a case", () => {
   assert.deepEqual([units.whole.words, units.whole.number(-1234)], ["units", "−1,234"]);
   assert.deepEqual([units.say(1), units.say(1234)].map(plain), ["1 unit", "1,234 units"]);
   const table = thousand.scale(7_572_000);
-  assert.deepEqual([table.words, table.number(113_333), table.number(-890_000), table.number(400), table.number(-1), table.number(0)],
-    ["EUR million", "113", "−890", "<1", "−<1", "0"]);
-  assert.deepEqual([thousand.figures(7_572_000).words, thousand.figures(7_572_000).number(1_256_002)].map(plain), ["EUR bn", "1.26"]);
+  assert.deepEqual(
+    [
+      table.words,
+      table.number(113_333),
+      table.number(-890_000),
+      table.number(400),
+      table.number(-1),
+      table.number(0),
+    ],
+    ["EUR million", "113", "−890", "<1", "−<1", "0"],
+  );
+  assert.deepEqual(
+    [thousand.figures(7_572_000).words, thousand.figures(7_572_000).number(1_256_002)].map(plain),
+    ["EUR bn", "1.26"],
+  );
 });
 
 test("a long name is cut after a whole word of four letters or more", () => {
@@ -86,18 +147,41 @@ test("who falls and who is saved", () => {
 });
 
 test("where default costs there are both ends", () => {
-  const top = view(["sound", 10, 5, 5, 6], ["sound", 1, 9, 9, 1], ["sound", 3, 0, 0, 7], ["fundamental", 2, 8, 3, 0]);
-  const costly = { ...BASE, lost: [0, 3, 0, 1], greatest: { state: top.state, paid: top.paid, outsidePaid: top.outsidePaid, equity: top.equity, lost: top.lost } };
+  const top = view(
+    ["sound", 10, 5, 5, 6],
+    ["sound", 1, 9, 9, 1],
+    ["sound", 3, 0, 0, 7],
+    ["fundamental", 2, 8, 3, 0],
+  );
+  const costly = {
+    ...BASE,
+    lost: [0, 3, 0, 1],
+    greatest: {
+      state: top.state,
+      paid: top.paid,
+      outsidePaid: top.outsidePaid,
+      equity: top.equity,
+      lost: top.lost,
+    },
+  };
   assert.equal(atGreatest(BASE), null);
   assert.deepEqual(soundAtGreatest(BASE), []);
   assert.deepEqual(soundAtGreatest(costly), [1]);
   assert.deepEqual([sums(costly).defaults, sums(costly).lost, sums(costly).pays], [2, 4, 11]);
-  assert.deepEqual([sums(atGreatest(costly)).defaults, sums(atGreatest(costly)).lost, sums(atGreatest(costly)).pays], [1, 0, 17]);
+  assert.deepEqual(
+    [sums(atGreatest(costly)).defaults, sums(atGreatest(costly)).lost, sums(atGreatest(costly)).pays],
+    [1, 0, 17],
+  );
 });
 
 test("a row says what is unpaid and kept, before and now", () => {
   const found = rows(BASE, NOW);
-  assert.deepEqual(found.map((row) => [row.unpaidBefore, row.unpaid, row.unpaidMore, row.keepsMore]), [[0, 4, 4, -5], [5, 0, -5, 1], [0, 0, 0, -4], [6, 6, 0, 0]]);
+  assert.deepEqual(found.map((row) => [row.unpaidBefore, row.unpaid, row.unpaidMore, row.keepsMore]), [
+    [0, 4, 4, -5],
+    [5, 0, -5, 1],
+    [0, 0, 0, -4],
+    [6, 6, 0, 0],
+  ]);
   assert.deepEqual(found.filter(differs).map((row) => row.bank), [0, 1, 2]);
   assert.equal(rows(BASE, BASE).some(differs), false);
   assert.deepEqual(sorted(found, "unpaidMore").map((row) => row.bank), [0, 3, 2, 1]);
@@ -107,27 +191,49 @@ test("a row says what is unpaid and kept, before and now", () => {
 
 test("the debts of two states are held against one another pair by pair", () => {
   const network = { names: NAMES, debtors: [0, 0, 1], creditors: [1, 1, 2], claims: [5, 4, 9] };
-  const pairs = new Pairs(network), listed_ = ({ claims, paid, counts }) => [...claims].map((claim, at) => [claim, paid[at], counts[at]]);
+  const pairs = new Pairs(network);
+  const listed_ = ({ claims, paid, counts }) => [...claims].map((claim, at) => [claim, paid[at], counts[at]]);
   const before = pairs.sums({ flows: [5, 4, 9], keys: null, changedDebts: [] });
-  const now = pairs.sums({ flows: [1, 2, 3], keys: [0, 2, 3], changedDebts: [[1, 0, 1, 1, 4, null], [3, 2, 3, 1, null, 3], [2, 1, 2, 1, 9, 8]] });
+  const now = pairs.sums({
+    flows: [1, 2, 3],
+    keys: [0, 2, 3],
+    changedDebts: [[1, 0, 1, 1, 4, null], [3, 2, 3, 1, null, 3], [2, 1, 2, 1, 9, 8]],
+  });
   assert.deepEqual(listed_(before), [[9, 9, 2], [9, 9, 1]]);
   assert.deepEqual(listed_(now), [[5, 1, 1], [8, 2, 1], [3, 3, 1]]);
-  const flows = flowsOf(pairs, before, now, false).map((flow) => [flow.debtor, flow.creditor, flow.unpaid, flow.more]);
+  const flows = flowsOf(pairs, before, now, false).map((flow) => [
+    flow.debtor,
+    flow.creditor,
+    flow.unpaid,
+    flow.more,
+  ]);
   assert.deepEqual(flows, [[0, 1, 4, 4], [1, 2, 6, 6], [2, 3, 0, 0]]);
-  assert.deepEqual(flowsOf(pairs, now, before, false).map((flow) => [flow.debtor, flow.creditor, flow.more]), [[0, 1, -4], [1, 2, -6], [2, 3, 0]]);
+  assert.deepEqual(
+    flowsOf(pairs, now, before, false).map((flow) => [flow.debtor, flow.creditor, flow.more]),
+    [[0, 1, -4], [1, 2, -6], [2, 3, 0]],
+  );
   assert.deepEqual(flowsOf(pairs, before, now, true).map((flow) => flow.more), [4, 6, 0]);
   // Where nothing of the debts is changed all has the claims of the files, and each state sums of its own.
   const cut_ = pairs.sums({ flows: [0, 4, 2], keys: null, changedDebts: [] });
   assert.deepEqual([listed_(cut_), listed_(before)], [[[9, 4, 2], [9, 2, 1]], [[9, 9, 2], [9, 9, 1]]]);
   // A claim that is struck is there no more, and its pair has no debt where it was the only one.
   const struck = pairs.sums({ flows: [5, 4], keys: [0, 1], changedDebts: [[2, 1, 2, 1, 9, null]] });
-  assert.deepEqual(flowsOf(pairs, before, struck, true).map((flow) => [flow.debtor, flow.creditor]), [[0, 1]]);
-  assert.deepEqual(flowsOf(pairs, before, struck, false).map((flow) => [flow.claim, flow.more]), [[9, 0], [0, 0]]);
+  assert.deepEqual(flowsOf(pairs, before, struck, true).map((flow) => [flow.debtor, flow.creditor]), [
+    [0, 1],
+  ]);
+  assert.deepEqual(flowsOf(pairs, before, struck, false).map((flow) => [flow.claim, flow.more]), [
+    [9, 0],
+    [0, 0],
+  ]);
 });
 
 test("a state of another case stands over the banks of this one", () => {
-  const other = { ...BASE, estate: [1, 2, 3, 4], wave: [0, 0, 0, 0] }, found = aligned(other, ["D", "X", "A"], NAMES);
-  assert.deepEqual([found.state, found.left, found.owed], [["fundamental", "absent", "sound"], [2, 0, 10], [8, 0, 5]]);
+  const other = { ...BASE, estate: [1, 2, 3, 4], wave: [0, 0, 0, 0] };
+  const found = aligned(other, ["D", "X", "A"], NAMES);
+  assert.deepEqual(
+    [found.state, found.left, found.owed],
+    [["fundamental", "absent", "sound"], [2, 0, 10], [8, 0, 5]],
+  );
 });
 
 test("what is paid outside is paid, and what is owed there is owed", () => {
@@ -140,28 +246,47 @@ test("the sums add up", () => {
 });
 
 test("the title says who joins those in default, and what more is unpaid", () => {
-  const say = (units) => `${units}`, title = (before, now, isSame = false) => told(before, now, isSame, (bank) => NAMES[bank], say);
+  const say = (units) => `${units}`;
+  const title = (before, now, isSame = false) => told(before, now, isSame, (bank) => NAMES[bank], say);
   assert.equal(title(BASE, NOW), "A joins those in default; B is in default no more; 1 less stays unpaid");
   assert.equal(title(BASE, BASE, true), "Two of four banks are in default; 11 stays unpaid");
-  const inUnits = (before, now, isSame) => told(before, now, isSame, (bank) => NAMES[bank], (units) => `${units} ${units === 1 ? "unit" : "units"}`);
-  assert.equal(inUnits(BASE, NOW, false), "A joins those in default; B is in default no more; 1 unit less stays unpaid");
+  const inUnits = (before, now, isSame) => told(before, now, isSame, (bank) => NAMES[bank], (units) =>
+    `${units} ${units === 1 ? "unit" : "units"}`);
+  assert.equal(
+    inUnits(BASE, NOW, false),
+    "A joins those in default; B is in default no more; 1 unit less stays unpaid",
+  );
   assert.equal(inUnits(BASE, BASE, true), "Two of four banks are in default; 11 units stay unpaid");
   assert.equal(title(BASE, BASE), "Nothing differs");
-  const three = view(["contagion", 0, 5, 1, 0], ["contagion", 1, 9, 4, 0], ["contagion", 3, 4, 0, 7], ["fundamental", 2, 8, 2, 0]);
+  const three = view(
+    ["contagion", 0, 5, 1, 0],
+    ["contagion", 1, 9, 4, 0],
+    ["contagion", 3, 4, 0, 7],
+    ["fundamental", 2, 8, 2, 0],
+  );
   assert.equal(title(BASE, three), "A and C join those in default; 8 more stays unpaid");
   assert.equal(inUnits(BASE, three, false), "A and C join those in default; 8 units more stay unpaid");
-  const less = view(["sound", 10, 5, 5, 4], ["contagion", 1, 9, 4, 0], ["sound", 3, 0, 0, 7], ["fundamental", 2, 8, 2, 0]);
+  const less = view(
+    ["sound", 10, 5, 5, 4],
+    ["contagion", 1, 9, 4, 0],
+    ["sound", 3, 0, 0, 7],
+    ["fundamental", 2, 8, 2, 0],
+  );
   assert.equal(title(BASE, less), "The same banks are in default; as much stays unpaid");
 });
 
 test("what was changed of the banks", () => {
-  assert.deepEqual(changedBanks(BASE, NOW), [{ bank: 0, field: "cash", before: 10, now: 1 }, { bank: 1, field: "cash", before: 1, now: 9 }]);
+  assert.deepEqual(changedBanks(BASE, NOW), [
+    { bank: 0, field: "cash", before: 10, now: 1 },
+    { bank: 1, field: "cash", before: 1, now: 9 },
+  ]);
 });
 
 test("undo and redo go along the line", () => {
   const line = new Line([0]);
   assert.equal(line.before, undefined);
-  line.go(1); line.go(2);
+  line.go(1);
+  line.go(2);
   assert.equal(line.undo(), 1);
   assert.equal(line.after, 2);
   assert.equal(line.undo(), 0);
@@ -176,15 +301,21 @@ test("undo and redo go along the line", () => {
 
 test("while a slider moves one state takes the place of another", () => {
   const line = new Line([0]);
-  line.go(1); line.go(2, true); line.go(3, true);
+  line.go(1);
+  line.go(2, true);
+  line.go(3, true);
   assert.deepEqual([line.states, line.now], [[0, 3], 3]);
   line.go(0, true);
   assert.deepEqual([line.states, line.now], [[0], 0]);
 });
 
 test("only the newest value is asked for", async () => {
-  const asked = [], waiting = [];
-  const ask = newest((value) => { asked.push(value); return new Promise((done) => waiting.push(done)); });
+  const asked = [];
+  const waiting = [];
+  const ask = newest((value) => {
+    asked.push(value);
+    return new Promise((done) => waiting.push(done));
+  });
   const pass = () => new Promise((done) => setTimeout(done));
   assert.equal(ask(1), true);
   for (const value of [2, 3, 4]) assert.equal(ask(value), false);
@@ -199,7 +330,8 @@ test("only the newest value is asked for", async () => {
 });
 
 test("banks are found by name or label, the nearest first", () => {
-  const names = ["Kemi", "Alkem", "kem", "Ost"], labels = ["", "", "", "Bank of Kemijärvi"];
+  const names = ["Kemi", "Alkem", "kem", "Ost"];
+  const labels = ["", "", "", "Bank of Kemijärvi"];
   assert.deepEqual(matches(names, labels, " KEM "), [2, 0, 1, 3]);
   assert.deepEqual(matches(names, labels, ""), []);
   assert.deepEqual(matches(["Crédit Loire", "B"], ["", "Cre\u0301dit B"], "credit"), [0, 1]);

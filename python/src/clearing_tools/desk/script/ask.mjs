@@ -1,5 +1,5 @@
-// What is asked of the server: GET to see, POST to change. An answer is its value, or the fault that the program or the server tells.
-// Paths are relative: they stand behind the ticket with which the page's own address begins.
+// What is asked of the server: GET to see, POST to change. An answer is its value, or the fault that the program or
+// the server tells. Paths are relative: they stand behind the ticket with which the page's own address begins.
 
 const answer = async (sent) => {
   let response;
@@ -19,18 +19,25 @@ const answer = async (sent) => {
 export const see = (path) => answer(fetch(path, { headers: { Accept: "application/json" } }));
 
 /** What a request with an object answers. */
-export const post = (path, what) => answer(fetch(path, {
-  method: "POST",
-  headers: { "Content-Type": "application/json" },
-  body: JSON.stringify(what),
-}));
+export const post = (path, what) => answer(
+  fetch(path, {
+    method: "POST",
+    headers: { "Content-Type": "application/json" },
+    body: JSON.stringify(what),
+  }),
+);
 
 /** The state that a change of another leads to. */
 export const change = (from, what) => post("change", { from, ...what });
 
-const wait = (milliseconds) => new Promise((done) => { setTimeout(done, milliseconds); });
+const wait = (milliseconds) => new Promise((done) => {
+  setTimeout(done, milliseconds);
+});
 
-/** Follows a question: `take` gets each piece as it comes, `tell` how far it is. Ends with what was told last; `isWanted` says whether to go on. */
+/**
+ * Follows a question: `take` gets each piece as it comes, `tell` how far it is. Ends with what was told last;
+ * `isWanted` says whether to go on.
+ */
 export const follow = async (number, take, tell, isWanted) => {
   let after = 0, pause = 60;
   for (;;) {

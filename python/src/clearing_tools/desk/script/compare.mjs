@@ -1,4 +1,5 @@
-// A state against another: who falls or is saved, what each pays and keeps more or less. It adds and subtracts, and does nothing else.
+// A state against another: who falls or is saved, what each pays and keeps more or less. It adds and subtracts, and
+// does nothing else.
 import { listed, word } from "./numbers.mjs";
 
 export const isSound = (state) => state === "sound" || state === "absent";
@@ -6,10 +7,14 @@ const places = (view) => view.state.map((_, bank) => bank);
 const sum = (values) => values.reduce((all, value) => all + value, 0);
 
 /** The banks that are in default now and were not before. */
-export const fallen = (before, now) => places(now).filter((bank) => isSound(before.state[bank]) && !isSound(now.state[bank]));
+export const fallen = (before, now) => places(now).filter(
+  (bank) => isSound(before.state[bank]) && !isSound(now.state[bank]),
+);
 
 /** The banks that were in default before and are not now. */
-export const saved = (before, now) => places(now).filter((bank) => !isSound(before.state[bank]) && isSound(now.state[bank]));
+export const saved = (before, now) => places(now).filter(
+  (bank) => !isSound(before.state[bank]) && isSound(now.state[bank]),
+);
 
 /** All that a bank pays, outside and to banks. */
 export const paysOf = (view, bank) => view.paid[bank] + view.outsidePaid[bank];
@@ -22,7 +27,8 @@ export const unpaidOf = (view, bank) => owesOf(view, bank) - paysOf(view, bank);
 
 /** The sums of a state. */
 export const sums = (view) => {
-  const pays = places(view).map((bank) => paysOf(view, bank)), owes = places(view).map((bank) => owesOf(view, bank));
+  const pays = places(view).map((bank) => paysOf(view, bank));
+  const owes = places(view).map((bank) => owesOf(view, bank));
   return {
     defaults: view.state.filter((state) => !isSound(state)).length,
     cash: sum(view.left),
@@ -64,11 +70,21 @@ const ORDERS = {
   keepsMore: (row) => row.keepsMore,
 };
 
-/** Rows in an order: by a column, from its far end where `turned`; of equal ones that with more of a difference comes first. */
+/**
+ * Rows in an order: by a column, from its far end where `turned`; of equal ones that with more of a difference
+ * comes first.
+ */
 export const sorted = (found, key, turned) => {
-  const of = ORDERS[key], sign = turned ? -1 : 1;
-  return [...found].sort((one, other) => sign * (of(one) - of(other)) || Math.abs(other.unpaidMore) - Math.abs(one.unpaidMore)
-    || Math.abs(other.unpaid) - Math.abs(one.unpaid) || Math.abs(other.keepsMore) - Math.abs(one.keepsMore) || one.bank - other.bank);
+  const of = ORDERS[key];
+  const sign = turned ? -1 : 1;
+  return [...found].sort(
+    (one, other) =>
+      sign * (of(one) - of(other))
+      || Math.abs(other.unpaidMore) - Math.abs(one.unpaidMore)
+      || Math.abs(other.unpaid) - Math.abs(one.unpaid)
+      || Math.abs(other.keepsMore) - Math.abs(one.keepsMore)
+      || one.bank - other.bank,
+  );
 };
 
 /** Whether anything of a row is another than before. */
@@ -79,14 +95,22 @@ const stays = (said, more = "") => `${said}${more} ${said.endsWith("units") ? "s
 
 /** The title of a state against another. `name` gives a bank's name in a sentence, `say` an amount. */
 export const told = (before, now, isSame, name, say) => {
-  const is = sums(now), more = is.unpaid - sums(before).unpaid;
+  const is = sums(now);
+  const more = is.unpaid - sums(before).unpaid;
   if (isSame) {
     const count = is.defaults ? `${word(is.defaults)} of ${word(now.state.length)} banks` : "No bank";
-    return `${count[0].toUpperCase()}${count.slice(1)} ${is.defaults === 1 || !is.defaults ? "is" : "are"} in default; ${stays(say(is.unpaid))}`;
+    const who = `${count[0].toUpperCase()}${count.slice(1)} ${is.defaults > 1 ? "are" : "is"}`;
+    return `${who} in default; ${stays(say(is.unpaid))}`;
   }
-  const falls = fallen(before, now), rises = saved(before, now), parts = [];
-  if (falls.length) parts.push(`${listed(falls.map(name), 3)} ${falls.length === 1 ? "joins" : "join"} those in default`);
-  if (rises.length) parts.push(`${listed(rises.map(name), 3)} ${rises.length === 1 ? "is" : "are"} in default no more`);
+  const falls = fallen(before, now);
+  const rises = saved(before, now);
+  const parts = [];
+  if (falls.length) {
+    parts.push(`${listed(falls.map(name), 3)} ${falls.length === 1 ? "joins" : "join"} those in default`);
+  }
+  if (rises.length) {
+    parts.push(`${listed(rises.map(name), 3)} ${rises.length === 1 ? "is" : "are"} in default no more`);
+  }
   if (!parts.length && !rows(before, now).some(differs)) return "Nothing differs";
   if (!parts.length) parts.push(is.defaults ? "The same banks are in default" : "No bank is in default");
   parts.push(more ? stays(say(Math.abs(more)), more > 0 ? " more" : " less") : "as much stays unpaid");
@@ -101,23 +125,38 @@ export const changedBanks = (before, now) => places(now).flatMap((bank) => ["cas
 /** Why the changes are no scenario, which takes cash and nothing else; nothing where nothing is changed. */
 export const whyNoScenario = (before, now) => {
   const fields = new Set(changedBanks(before, now).map(({ field }) => field));
-  const reasons = [["debts", now.changedDebts.length], ["rules", fields.has("rule")], ["what is owed outside", fields.has("outside")],
-    ["what default keeps", before.keep !== now.keep], ["cash that is more than before", now.left.some((units, bank) => units > before.left[bank])]];
+  const reasons = [
+    ["debts", now.changedDebts.length],
+    ["rules", fields.has("rule")],
+    ["what is owed outside", fields.has("outside")],
+    ["what default keeps", before.keep !== now.keep],
+    ["cash that is more than before", now.left.some((units, bank) => units > before.left[bank])],
+  ];
   const said = reasons.filter(([, holds]) => holds).map(([words]) => words);
-  return said.length ? `No changes.toml: a scenario takes cash and nothing else, and changed here: ${listed(said)}.` : "";
+  return said.length
+    ? `No changes.toml: a scenario takes cash and nothing else, and changed here: ${listed(said)}.`
+    : "";
 };
 
 // Two cases.
 
-/** A state of another case as one of this: a list over this case's banks, by their names, and those behind them that it alone has. */
+/**
+ * A state of another case as one of this: a list over this case's banks, by their names, and those behind them that
+ * it alone has.
+ */
 export const aligned = (view, names, others) => {
-  const place = new Map(others.map((name, at) => [name, at])), from = names.map((name) => place.get(name) ?? -1);
+  const place = new Map(others.map((name, at) => [name, at]));
+  const from = names.map((name) => place.get(name) ?? -1);
   const list = (key, none) => from.map((at) => (at < 0 ? none : view[key][at]));
   return {
     ...view,
     state: list("state", "absent"),
     rule: list("rule", ""),
-    ...Object.fromEntries(["cash", "outside", "left", "owed", "estate", "lost", "paid", "outsidePaid", "equity", "wave"].map((key) => [key, list(key, 0)])),
+    ...Object.fromEntries(
+      ["cash", "outside", "left", "owed", "estate", "lost", "paid", "outsidePaid", "equity", "wave"].map((
+        key,
+      ) => [key, list(key, 0)]),
+    ),
     greatest: null,
   };
 };

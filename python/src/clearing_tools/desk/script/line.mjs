@@ -8,15 +8,24 @@ export class Line {
   }
 
   /** The state at hand. */
-  get now() { return this.states[this.at]; }
+  get now() {
+    return this.states[this.at];
+  }
 
   /** The state before it, or nothing. */
-  get before() { return this.states[this.at - 1]; }
+  get before() {
+    return this.states[this.at - 1];
+  }
 
   /** The state that was undone last, or nothing. */
-  get after() { return this.states[this.at + 1]; }
+  get after() {
+    return this.states[this.at + 1];
+  }
 
-  /** Goes on to a state; what was undone is gone. With `instead` it takes the place of the one at hand, as while a slider moves. */
+  /**
+   * Goes on to a state; what was undone is gone. With `instead` it takes the place of the one at hand, as while a
+   * slider moves.
+   */
   go(state, instead = false) {
     if (state === this.now) return;
     this.states.length = this.at + (instead && this.at ? 0 : 1);

@@ -1,4 +1,5 @@
-// A slider that is dragged asks for the newest value only: while one is asked for, the others but the last are passed over.
+// A slider that is dragged asks for the newest value only: while one is asked for, the others but the last are
+// passed over.
 
 /** A function that gives each value to the work, one at a time, and only the last of those that came meanwhile. */
 export const newest = (work) => {

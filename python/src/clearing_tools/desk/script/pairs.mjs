@@ -1,17 +1,25 @@
-// Debts between two banks, all classes together. Each pair of banks has one place in all states of a network, so that two states are held
-// against one another place by place.
+// Debts between two banks, all classes together. Each pair of banks has one place in all states of a network, so
+// that two states are held against one another place by place.
 
-/** The pairs of banks of a network that have a debt. One that is added at the desk gets a place when it is first met. */
+/**
+ * The pairs of banks of a network that have a debt. One that is added at the desk gets a place when it is first
+ * met.
+ */
 export class Pairs {
   constructor(network) {
     this.size = network.names.length;
     this.debtors = [];
     this.creditors = [];
     this.places = new Map();
-    this.of = Int32Array.from(network.claims, (_, key) => this.place(network.debtors[key], network.creditors[key]));
+    this.of = Int32Array.from(network.claims, (_, key) => this.place(
+      network.debtors[key],
+      network.creditors[key],
+    ));
     this.given = network.claims;
     this.whole = this.nothing();
-    this.given.forEach((claim, key) => { this.add(this.whole, this.of[key], claim, 0); });
+    this.given.forEach((claim, key) => {
+      this.add(this.whole, this.of[key], claim, 0);
+    });
   }
 
   /** The place of a pair, a new one where it has none yet. */
@@ -27,7 +35,10 @@ export class Pairs {
     return place;
   }
 
-  /** Sums of a state to which nothing was added yet: claims, what is paid, and how many debts there are, a list over the places each. */
+  /**
+   * Sums of a state to which nothing was added yet: claims, what is paid, and how many debts there are, a list over
+   * the places each.
+   */
   nothing() {
     const count = this.debtors.length;
     return { claims: new Float64Array(count), paid: new Float64Array(count), counts: new Int32Array(count) };
@@ -42,15 +53,22 @@ export class Pairs {
   /** The sums of a state. */
   sums(view) {
     if (!view.keys && !view.changedDebts.length) {
-      const paid = new Float64Array(this.whole.claims.length), { of } = this, { flows } = view;
+      const paid = new Float64Array(this.whole.claims.length);
+      const { of } = this;
+      const { flows } = view;
       for (let key = 0; key < flows.length; key += 1) paid[of[key]] += flows[key];
       return { ...this.whole, paid };
     }
     const changed = new Map(view.changedDebts.map((debt) => [debt[0], debt]));
-    return this.summed(view.flows.map((paid, at) => {
-      const key = view.keys ? view.keys[at] : at, other = changed.get(key);
-      return other ? [this.place(other[1], other[2]), other[5], paid] : [this.of[key], this.given[key], paid];
-    }));
+    return this.summed(
+      view.flows.map((paid, at) => {
+        const key = view.keys ? view.keys[at] : at;
+        const other = changed.get(key);
+        return other
+          ? [this.place(other[1], other[2]), other[5], paid]
+          : [this.of[key], this.given[key], paid];
+      }),
+    );
   }
 
   /** The sums of some debts, each as place, claim and paid. */
@@ -61,19 +79,35 @@ export class Pairs {
   }
 }
 
-/** Calls for each pair that has a debt in one of two states: debtor, creditor, claim and paid now, and how much more is unpaid than before. */
+/**
+ * Calls for each pair that has a debt in one of two states: debtor, creditor, claim and paid now, and how much more
+ * is unpaid than before.
+ */
 export const eachFlow = ({ debtors, creditors }, before, now, isSame, take) => {
   for (let place = 0; place < debtors.length; place += 1) {
-    const isNow = now.counts[place] > 0, wasThere = !isSame && before.counts[place] > 0;
+    const isNow = now.counts[place] > 0;
+    const wasThere = !isSame && before.counts[place] > 0;
     if (!isNow && !wasThere) continue;
-    const claim = isNow ? now.claims[place] : 0, paid = isNow ? now.paid[place] : 0;
-    take(debtors[place], creditors[place], claim, paid, claim - paid - (wasThere ? before.claims[place] - before.paid[place] : 0));
+    const claim = isNow ? now.claims[place] : 0;
+    const paid = isNow ? now.paid[place] : 0;
+    take(
+      debtors[place],
+      creditors[place],
+      claim,
+      paid,
+      claim - paid - (wasThere ? before.claims[place] - before.paid[place] : 0),
+    );
   }
 };
 
-/** The pairs of two states: debtor, creditor, claim and paid now, what is unpaid now, and by how much that is more than before. */
+/**
+ * The pairs of two states: debtor, creditor, claim and paid now, what is unpaid now, and by how much that is more
+ * than before.
+ */
 export const flowsOf = (pairs, before, now, isSame) => {
   const found = [];
-  eachFlow(pairs, before, now, isSame, (debtor, creditor, claim, paid, more) => { found.push({ debtor, creditor, claim, paid, unpaid: claim - paid, more }); });
+  eachFlow(pairs, before, now, isSame, (debtor, creditor, claim, paid, more) => {
+    found.push({ debtor, creditor, claim, paid, unpaid: claim - paid, more });
+  });
   return found;
 };

@@ -7,18 +7,50 @@ const FAULTS = ["scenario-name", "scenario-cut", "scenario-losses"];
 
 /** Shows the scenarios that can be chosen. */
 export const showScenarios = (context) => {
-  const { scenarios } = context.network, group = (title, wanted) => {
+  const { scenarios } = context.network;
+  const group = (title, wanted) => {
     const found = scenarios.map((one, at) => [one, at + 1]).filter(([one]) => one.isBuilt === wanted);
-    return found.length ? [make("optgroup", { label: title }, ...found.map(([one, at]) => make("option", { value: at }, one.name)))] : [];
+    return found.length
+      ? [
+          make("optgroup", { label: title },
+            ...found.map(([one, at]) => make("option", { value: at }, one.name)),
+          ),
+        ]
+      : [];
   };
-  by("scenario").replaceChildren(make("option", { value: 0 }, "none"), ...group("of the file", false), ...group("built here", true));
+  by("scenario").replaceChildren(
+    make("option", { value: 0 }, "none"),
+    ...group("of the file", false),
+    ...group("built here", true),
+  );
   by("scenario").value = context.view?.scenario ?? 0;
 };
 
 const row = (context, bank = "", amount = "") => make("div", { class: "loss fields" },
-  make("label", {}, make("span", {}, "Bank"), make("input", { type: "text", class: "loss-bank", list: "names", autocomplete: "off", value: bank })),
-  make("label", {}, make("span", {}, `Loss${context.inUnits}`), make("input", { type: "text", class: "loss-amount", inputmode: "numeric", autocomplete: "off", value: amount })),
-  make("button", { type: "button", "aria-label": "Take this loss out", click: (event) => event.target.closest(".loss").remove() }, "×"));
+  make("label", {},
+    make("span", {}, "Bank"),
+    make("input", { type: "text", class: "loss-bank", list: "names", autocomplete: "off", value: bank }),
+  ),
+  make("label", {},
+    make("span", {}, `Loss${context.inUnits}`),
+    make("input", {
+      type: "text",
+      class: "loss-amount",
+      inputmode: "numeric",
+      autocomplete: "off",
+      value: amount,
+    }),
+  ),
+  make(
+    "button",
+    {
+      type: "button",
+      "aria-label": "Take this loss out",
+      click: (event) => event.target.closest(".loss").remove(),
+    },
+    "×",
+  ),
+);
 
 /** Fills the form: with a copy of the scenario chosen, or with nothing. */
 const fill = (context, one) => {
@@ -28,7 +60,11 @@ const fill = (context, one) => {
   by("scenario-name").value = copy;
   by("scenario-cut").value = one?.cut ?? context.view.cut;
   const losses = one ? one.losses : context.view.losses;
-  by("losses-rows").replaceChildren(...(losses.length ? losses.map(([bank, amount]) => row(context, context.network.names[bank], amount)) : [row(context)]));
+  by("losses-rows").replaceChildren(
+    ...(losses.length
+      ? losses.map(([bank, amount]) => row(context, context.network.names[bank], amount))
+      : [row(context)]),
+  );
   for (const field of FAULTS) showFault(field, null);
   by("build").open = true;
   by("scenario-name").focus();
@@ -39,7 +75,10 @@ const fill = (context, one) => {
 export const listenScenarios = (context) => {
   by("losses-rows").append(row(context));
   by("build-open").addEventListener("click", () => fill(context, null));
-  by("build-copy").addEventListener("click", () => fill(context, context.network.scenarios[Number(by("scenario").value) - 1] ?? null));
+  by("build-copy").addEventListener("click", () => fill(
+    context,
+    context.network.scenarios[Number(by("scenario").value) - 1] ?? null,
+  ));
   by("loss-more").addEventListener("click", () => {
     by("losses-rows").append(row(context));
     by("losses-rows").lastElementChild.querySelector("input").focus();
@@ -47,16 +86,28 @@ export const listenScenarios = (context) => {
   by("build-form").addEventListener("submit", async (event) => {
     event.preventDefault();
     for (const field of FAULTS) showFault(field, null);
-    const losses = [], { names } = context.network;
+    const losses = [];
+    const { names } = context.network;
     for (const line of by("losses-rows").children) {
-      const bank = line.querySelector(".loss-bank").value.trim(), amount = line.querySelector(".loss-amount").value;
+      const bank = line.querySelector(".loss-bank").value.trim();
+      const amount = line.querySelector(".loss-amount").value;
       if (!bank && !amount.trim()) continue;
       const place = names.indexOf(bank);
-      if (place < 0) { showFault("scenario-losses", { said: bank ? `no bank is called ${bank}` : "a loss has a bank" }); return; }
+      if (place < 0) {
+        showFault("scenario-losses", { said: bank ? `no bank is called ${bank}` : "a loss has a bank" });
+        return;
+      }
       losses.push([place, amount]);
     }
-    const { value, fault } = await post("scenario", { name: by("scenario-name").value, cut: by("scenario-cut").value, losses });
-    if (fault) { if (!showFault(fault.field, fault)) showFault("scenario-losses", fault); return; }
+    const { value, fault } = await post("scenario", {
+      name: by("scenario-name").value,
+      cut: by("scenario-cut").value,
+      losses,
+    });
+    if (fault) {
+      if (!showFault(fault.field, fault)) showFault("scenario-losses", fault);
+      return;
+    }
     context.network.scenarios = value.scenarios;
     showScenarios(context);
     by("build").open = false;
@@ -65,5 +116,8 @@ export const listenScenarios = (context) => {
 };
 
 /** What choosing a scenario does to the cut, in words; nothing where it stays. */
-export const cutWords = (before, now) => (before && now.scenario !== before.scenario && now.cut !== before.cut
-  ? `The scenario sets the cut to ${number(now.cut)} per mille; it was ${number(before.cut)}. Undo takes it back.` : "");
+export const cutWords = (before, now) => (
+  before && now.scenario !== before.scenario && now.cut !== before.cut
+    ? `The scenario sets the cut to ${number(now.cut)} per mille; it was ${number(before.cut)}. Undo takes it back.`
+    : ""
+);
