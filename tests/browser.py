@@ -1,4 +1,5 @@
-"""Headless Chromium for tests of a page, driven by Selenium: Debian's packages chromium, chromium-driver and python3-selenium."""
+"""Headless Chromium for tests of a page, driven by Selenium: Debian's packages chromium, chromium-driver and
+python3-selenium."""
 import json
 import os
 import shutil
@@ -24,8 +25,11 @@ def reason():
         return "no Python here has selenium (Debian's package python3-selenium)"
     if python == sys.executable:
         return ""
-    asked = subprocess.run([python, "-c", "import sys; print(*sys.version_info[:2]); print(*sys.path, sep='\\n')"],
-                           capture_output=True, encoding="utf-8").stdout.splitlines()
+    asked = subprocess.run(
+        [python, "-c", "import sys; print(*sys.version_info[:2]); print(*sys.path, sep='\\n')"],
+        capture_output=True,
+        encoding="utf-8",
+    ).stdout.splitlines()
     if asked[0] != "{} {}".format(*sys.version_info[:2]):
         return f"selenium is there for {python} alone, another version of Python; PYTHON={python} runs the tests by it"
     sys.path += [path for path in asked[1:] if path.endswith("-packages")]
@@ -50,8 +54,15 @@ class Browsing(unittest.TestCase):
 
         options = Options()
         options.binary_location = shutil.which("chromium")
-        for word in ("--headless=new", "--no-sandbox", "--disable-gpu", "--disable-dev-shm-usage", "--disable-extensions",
-                     "--disable-background-networking", "--window-size=1280,900"):
+        for word in (
+            "--headless=new",
+            "--no-sandbox",
+            "--disable-gpu",
+            "--disable-dev-shm-usage",
+            "--disable-extensions",
+            "--disable-background-networking",
+            "--window-size=1280,900",
+        ):
             options.add_argument(word)
         options.set_capability("goog:loggingPrefs", {"browser": "ALL", "performance": "ALL"})
         cls.driver = webdriver.Chrome(service=Service(shutil.which("chromedriver")), options=options)
@@ -68,7 +79,9 @@ class Browsing(unittest.TestCase):
         """What the console said, and the addresses that were asked for, since the last call; the page is left."""
         told = [entry["message"] for entry in self.driver.get_log("browser")]
         events = [json.loads(entry["message"])["message"] for entry in self.driver.get_log("performance")]
-        asked = [event["params"]["request"]["url"] for event in events if event["method"] == "Network.requestWillBeSent"]
+        asked = [
+            event["params"]["request"]["url"] for event in events if event["method"] == "Network.requestWillBeSent"
+        ]
         self.driver.get("about:blank")
         self.driver.get_log("performance")
         self.driver.get_log("browser")
@@ -99,17 +112,24 @@ class Browsing(unittest.TestCase):
         ActionChains(self.driver).send_keys(*keys).perform()
 
 
-# Each text that can be seen against the nearest ground behind it, by the contrast of WCAG 2; text in a drawing has a halo of the ground.
+# Each text that can be seen against the nearest ground behind it, by the contrast of WCAG 2; text in a drawing has a
+# halo of the ground.
 CONTRAST = """
 const part = c => { c /= 255; return c <= 0.04045 ? c / 12.92 : ((c + 0.055) / 1.055) ** 2.4; };
 const light = ([r, g, b]) => 0.2126 * part(r) + 0.7152 * part(g) + 0.0722 * part(b);
 const parse = text => text.match(/[\\d.]+/g).map(Number);
-const ground = e => { for (; e; e = e.parentElement) { const c = parse(getComputedStyle(e).backgroundColor); if (c.length < 4 || c[3] > 0) return c; } };
+const ground = e => {
+  for (; e; e = e.parentElement) {
+    const c = parse(getComputedStyle(e).backgroundColor);
+    if (c.length < 4 || c[3] > 0) return c;
+  }
+};
 const poor = []; let count = 0;
 const walk = document.createTreeWalker(document.body, NodeFilter.SHOW_TEXT);
 while (walk.nextNode()) {
   const e = walk.currentNode.parentElement;
-  if (!walk.currentNode.textContent.trim() || !e.checkVisibility() || ['SCRIPT', 'NOSCRIPT', 'TITLE', 'title', 'OPTION'].includes(e.tagName)) continue;
+  if (!walk.currentNode.textContent.trim() || !e.checkVisibility()) continue;
+  if (['SCRIPT', 'NOSCRIPT', 'TITLE', 'title', 'OPTION'].includes(e.tagName)) continue;
   const style = getComputedStyle(e);
   const ink = parse(e.namespaceURI.endsWith('svg') ? style.fill : style.color);
   const a = light(ink), b = light(ground(e.closest('svg') || e));

@@ -1,5 +1,5 @@
-"""What the tests share: the program (from the environment variable CLEARING, else the repository's `./clearing`), the tools, the two
-packages, the networks of `examples/`, and a case with a folder of its own."""
+"""What the tests share: the program (from the environment variable CLEARING, else the repository's `./clearing`), the
+tools, the two packages, the networks of `examples/`, and a case with a folder of its own."""
 import functools
 import os
 import pathlib
@@ -34,7 +34,11 @@ def file_of(name):
 def run_of(name, python=None):
     """The words that run one of the tools: a file of Python by the Python that runs the tests, or by another."""
     path = file_of(name)
-    return [python or sys.executable, str(path)] if path.read_bytes().startswith(b"#!/usr/bin/env python3\n") else [str(path)]
+    return (
+        [python or sys.executable, str(path)]
+        if path.read_bytes().startswith(b"#!/usr/bin/env python3\n")
+        else [str(path)]
+    )
 
 
 def tool(name, *words, python=None, cwd=None):
@@ -50,11 +54,82 @@ def tool(name, *words, python=None, cwd=None):
 
 # Names of banks that a shell, a spreadsheet, XML or a careless reader of lines may take for something else.
 ODD_NAMES = [
-    "$(touch X)", "`touch X`", "${IFS}", "A$HOME", "d'Italia", "''", "B&W", "a;touch X", "a|touch X", "a>X", "a<b", "*", "?", "[a-z]*", "~",
-    "~root", "\\", "a\\", "\\n", "!!", "!$", "#", "a#b", "{a..b}", "(x)", ")", "%s%n", "%q", "a:b:c", "a=b", "=1+1", "@SUM(A1)", "+1", "a  b",
-    "a - b", "0", "00", "1e3", "1", "nan", "order", "name", "cash", "rule", "debtor", "total", "rounds", "null", "true", "<b>&amp;</b>",
-    "]]>", "<!--", "Crédit Loire", "Cre\u0301dit Loire", "Straße", "STRASSE", "İ", "漢字", "עברית", "😀", "\U0010ffff", "\u00a0A", "A\u00a0", "A\u200b",
-    "\u200bA", "\ufeffA", "A\ufeff", "A\u2028B", "A\u2029B", "\u202eA", "\ue000", "\ufffd", "\u00ad", "x" * 64, "é" * 32, "😀" * 16,
+    "$(touch X)",
+    "`touch X`",
+    "${IFS}",
+    "A$HOME",
+    "d'Italia",
+    "''",
+    "B&W",
+    "a;touch X",
+    "a|touch X",
+    "a>X",
+    "a<b",
+    "*",
+    "?",
+    "[a-z]*",
+    "~",
+    "~root",
+    "\\",
+    "a\\",
+    "\\n",
+    "!!",
+    "!$",
+    "#",
+    "a#b",
+    "{a..b}",
+    "(x)",
+    ")",
+    "%s%n",
+    "%q",
+    "a:b:c",
+    "a=b",
+    "=1+1",
+    "@SUM(A1)",
+    "+1",
+    "a  b",
+    "a - b",
+    "0",
+    "00",
+    "1e3",
+    "1",
+    "nan",
+    "order",
+    "name",
+    "cash",
+    "rule",
+    "debtor",
+    "total",
+    "rounds",
+    "null",
+    "true",
+    "<b>&amp;</b>",
+    "]]>",
+    "<!--",
+    "Crédit Loire",
+    "Cre\u0301dit Loire",
+    "Straße",
+    "STRASSE",
+    "İ",
+    "漢字",
+    "עברית",
+    "😀",
+    "\U0010ffff",
+    "\u00a0A",
+    "A\u00a0",
+    "A\u200b",
+    "\u200bA",
+    "\ufeffA",
+    "A\ufeff",
+    "A\u2028B",
+    "A\u2029B",
+    "\u202eA",
+    "\ue000",
+    "\ufffd",
+    "\u00ad",
+    "x" * 64,
+    "é" * 32,
+    "😀" * 16,
 ]
 
 

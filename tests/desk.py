@@ -26,9 +26,20 @@ class Running:
         if program:
             environment["CLEARING"] = str(program)
         self.process = subprocess.Popen(
-            [PYTHON or sys.executable, str(ROOT / "bin/clearing-desk"), *map(str, files), "--no-browser", *map(str, more)],
-            env=environment, stdin=subprocess.DEVNULL, stdout=subprocess.PIPE, stderr=subprocess.PIPE, encoding="utf-8",
-            preexec_fn=lambda: signal.signal(signal.SIGINT, signal.default_int_handler))
+            [
+                PYTHON or sys.executable,
+                str(ROOT / "bin/clearing-desk"),
+                *map(str, files),
+                "--no-browser",
+                *map(str, more),
+            ],
+            env=environment,
+            stdin=subprocess.DEVNULL,
+            stdout=subprocess.PIPE,
+            stderr=subprocess.PIPE,
+            encoding="utf-8",
+            preexec_fn=lambda: signal.signal(signal.SIGINT, signal.default_int_handler),
+        )
         case.addCleanup(self.end)
         line = self.process.stdout.readline()
         found = LINK.search(line)

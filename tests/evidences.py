@@ -1,4 +1,5 @@
-"""What the tests of folders of evidence share: how one is made and checked, with a program and without one, and how checksums are made anew."""
+"""What the tests of folders of evidence share: how one is made and checked, with a program and without one, and how
+checksums are made anew."""
 import hashlib
 import os
 import pathlib
@@ -31,7 +32,9 @@ name = "nothing"
 def evidence(*words, program=PROGRAM, **more):
     """A run of the tool with a program."""
     environment = {**os.environ, "CLEARING": program, "PYTHONDONTWRITEBYTECODE": "1"}
-    return subprocess.run([SCRIPT, *map(str, words)], env=environment, stdin=subprocess.DEVNULL, capture_output=True, **more)
+    return subprocess.run(
+        [SCRIPT, *map(str, words)], env=environment, stdin=subprocess.DEVNULL, capture_output=True, **more
+    )
 
 
 class EvidenceCase(Case):
@@ -39,7 +42,14 @@ class EvidenceCase(Case):
 
     def hub(self, scenarios=SCENARIOS):
         """Evidence of the hub with scenarios and a rescue."""
-        words = ["--banks", HUB / "banks.csv", "--debts", HUB / "debts.csv", "--scenarios", self.file("s.toml", scenarios)]
+        words = [
+            "--banks",
+            HUB / "banks.csv",
+            "--debts",
+            HUB / "debts.csv",
+            "--scenarios",
+            self.file("s.toml", scenarios),
+        ]
         folder = self.folder / "evidence"
         done = evidence("make", folder, *words, "--bank", "South")
         self.assertEqual((done.returncode, done.stderr), (0, b""))
@@ -47,7 +57,9 @@ class EvidenceCase(Case):
 
     def sums_anew(self, folder):
         """Has the checksums of all that is in a folder."""
-        names = sorted(str(path.relative_to(folder)) for path in folder.rglob("*") if path.is_file() and path.name != "SHA256SUMS")
+        names = sorted(
+            str(path.relative_to(folder)) for path in folder.rglob("*") if path.is_file() and path.name != "SHA256SUMS"
+        )
         # What is far too long is not read, here neither.
         content = lambda path: path.read_bytes() if path.stat().st_size < 1 << 30 else b""
         sums = [f"{hashlib.sha256(content(folder / name)).hexdigest()}  {name}\n" for name in names]

@@ -1,7 +1,8 @@
 """What the tests of the report share: networks, what a page has, and headless Chromium.
 
-The tests in the browser drive Chromium by Selenium, Debian's packages chromium, chromium-driver and python3-selenium, and want the
-library d3, its package node-d3; the page wants Jinja2, its package python3-jinja2. They are skipped where one of them is not there."""
+The tests in the browser drive Chromium by Selenium, Debian's packages chromium, chromium-driver and python3-selenium,
+and want the library d3, its package node-d3; the page wants Jinja2, its package python3-jinja2. They are skipped
+where one of them is not there."""
 import html.parser
 import os
 import pathlib
@@ -19,7 +20,9 @@ TWELVE = ROOT / "examples/twelve-banks"
 def largest(folder):
     """The largest network that is allowed: 1,000 banks and 20,000 debts, of which many are not paid in full."""
     banks = [f"bank {i},{i * 7919 % 5000},webster" for i in range(1000)]
-    debts = [f"bank {x % 1000},bank {(x % 1000 + 1 + x // 1000 * 37) % 1000},1,{1 + x * 104729 % 990}" for x in range(20000)]
+    debts = [
+        f"bank {x % 1000},bank {(x % 1000 + 1 + x // 1000 * 37) % 1000},1,{1 + x * 104729 % 990}" for x in range(20000)
+    ]
     (folder / "banks.csv").write_text("name,cash,rule\n" + "\n".join(banks) + "\n")
     (folder / "debts.csv").write_text("debtor,creditor,class,claim\n" + "\n".join(debts) + "\n")
     return files_of(folder)
@@ -27,8 +30,12 @@ def largest(folder):
 
 def outside_net(folder):
     """Four banks that owe outside: A pays less there than it owes, B defaults on its debts, C pays all."""
-    (folder / "banks.csv").write_text("name,cash,rule,outside\nA,3,order,9\nB,10,webster,4\nC,50,equal,5\nD,0,adams,0\n")
-    (folder / "debts.csv").write_text("debtor,creditor,class,claim\nA,B,1,8\nB,C,1,5\nB,D,1,5\nC,A,1,4\nC,D,2,7\nD,A,1,1\n")
+    (folder / "banks.csv").write_text(
+        "name,cash,rule,outside\nA,3,order,9\nB,10,webster,4\nC,50,equal,5\nD,0,adams,0\n"
+    )
+    (folder / "debts.csv").write_text(
+        "debtor,creditor,class,claim\nA,B,1,8\nB,C,1,5\nB,D,1,5\nC,A,1,4\nC,D,2,7\nD,A,1,1\n"
+    )
     return files_of(folder)
 
 
@@ -43,20 +50,54 @@ def ring_with_outside(folder, count):
 
 def odd_net(folder, most=None):
     """A ring of banks with names that HTML, a script or a reader of lines may take for something else."""
-    names = list(dict.fromkeys(["<script>alert(1)</script>", "</script>", "<img src=x onerror=alert(1)>", "&amp;", "&", "'", *ODD_NAMES]))
+    names = list(
+        dict.fromkeys(
+            ["<script>alert(1)</script>", "</script>", "<img src=x onerror=alert(1)>", "&amp;", "&", "'", *ODD_NAMES]
+        )
+    )
     names = [name for name in names if name.strip(" \t") == name][:most]
-    (folder / "banks.csv").write_text("name,cash,rule\n" + "".join(f"{name},{at % 3},equal\n" for at, name in enumerate(names)))
+    (folder / "banks.csv").write_text(
+        "name,cash,rule\n" + "".join(f"{name},{at % 3},equal\n" for at, name in enumerate(names))
+    )
     debts = [f"{name},{names[(at + 1) % len(names)]},1,{2 + at % 4}" for at, name in enumerate(names)]
     (folder / "debts.csv").write_text("debtor,creditor,class,claim\n" + "\n".join(debts) + "\n")
     return files_of(folder), names
 
 
 def networks_of_every_character():
-    """The names of networks of up to 900 banks: in the first those that HTML or a script may take for something else, in others every
-    allowed character of up to three bytes, and in the last some of four. With REPORT_NAMES=all in the environment all of four too."""
-    harmful = ["<script>alert(1)</script>", "</script>", "<img src=x onerror=alert(1)>", "&amp;", "&", "'", "</noscript><script>alert(1)</script>",
-               "<svg onload=alert(1)>", "<!--", "-->", "]]>", "<![CDATA[", "javascript:alert(1)", "</title>", "</style>", "<base href=//x>", "{{x}}", "${alert(1)}",
-               "\\u003cscript", "<a href=#>x</a>", "__proto__", "constructor", "toString", "0", "-1", "null", *ODD_NAMES]
+    """The names of networks of up to 900 banks: in the first those that HTML or a script may take for something else,
+    in others every allowed character of up to three bytes, and in the last some of four. With REPORT_NAMES=all in the
+    environment all of four too.
+    """
+    harmful = [
+        "<script>alert(1)</script>",
+        "</script>",
+        "<img src=x onerror=alert(1)>",
+        "&amp;",
+        "&",
+        "'",
+        "</noscript><script>alert(1)</script>",
+        "<svg onload=alert(1)>",
+        "<!--",
+        "-->",
+        "]]>",
+        "<![CDATA[",
+        "javascript:alert(1)",
+        "</title>",
+        "</style>",
+        "<base href=//x>",
+        "{{x}}",
+        "${alert(1)}",
+        "\\u003cscript",
+        "<a href=#>x</a>",
+        "__proto__",
+        "constructor",
+        "toString",
+        "0",
+        "-1",
+        "null",
+        *ODD_NAMES,
+    ]
     names = [name for name in dict.fromkeys(harmful) if name.strip(" \t") == name]
     yield names[:38]
     yield names
@@ -92,7 +133,8 @@ def is_running(process):
 
 
 class Reader(html.parser.HTMLParser):
-    """What a page has: its elements with their attributes, and the texts of its scripts, styles and of the rows of its tables."""
+    """What a page has: its elements with their attributes, and the texts of its scripts, styles and of the rows of
+    its tables."""
 
     def __init__(self, text):
         super().__init__()
@@ -153,20 +195,27 @@ class InTheBrowser(Browsing, Report):
 
     def shown_rows(self):
         """The names in the rows of the table of banks that can be seen, in their order."""
-        return self.js("return [...document.querySelectorAll('#banks-table tbody tr')].filter(r => r.checkVisibility())"
-                       ".map(r => r.cells[0].textContent)")
+        return self.js(
+            "return [...document.querySelectorAll('#banks-table tbody tr')].filter(r => r.checkVisibility())"
+            ".map(r => r.cells[0].textContent)"
+        )
 
     def heads(self):
         """The heads of the table of banks, without what the amounts are in."""
-        return self.js("return [...document.querySelectorAll('#banks-table thead button')].map(b => b.firstChild.textContent.trim())")
+        return self.js(
+            "return [...document.querySelectorAll('#banks-table thead button')].map(b =>"
+            " b.firstChild.textContent.trim())"
+        )
 
     def flows(self):
         """What the drawing says of each debt drawn, and how wide it is drawn as unpaid: 0 where it is drawn as paid."""
-        return self.js("""return Object.fromEntries([...document.querySelectorAll('#network g[data-flow]')].map(g => {
+        return self.js(
+            """return Object.fromEntries([...document.querySelectorAll('#network g[data-flow]')].map(g => {
             const line = g.querySelector('.line'), square = g.querySelector('.sq');
             const size = line ? +line.getAttribute('stroke-width') : +square.getAttribute('width');
             return [g.querySelector('title').textContent, g.classList.contains('done') ? 0 : size];
-        }))""")
+        }))"""
+        )
 
     def expected_flows(self, paid_of, banks, outside):
         """What it must say: for each pair the sums of its debts, and what is paid outside."""
@@ -177,7 +226,10 @@ class InTheBrowser(Browsing, Report):
         for name, (owed, paid) in outside.items():
             if owed:
                 pairs[name, "the world outside"] = owed, paid
-        return {f"{debtor} to {creditor}: {paid:,} of {claim:,} paid": (paid, claim) for (debtor, creditor), (claim, paid) in pairs.items()}
+        return {
+            f"{debtor} to {creditor}: {paid:,} of {claim:,} paid": (paid, claim)
+            for (debtor, creditor), (claim, paid) in pairs.items()
+        }
 
     def assert_same(self, shown, before):
         self.assertEqual(shown.keys(), before.keys())
@@ -185,10 +237,13 @@ class InTheBrowser(Browsing, Report):
             self.assertAlmostEqual(size, before[title], delta=0.11, msg=title)
 
     def assert_flows(self, expected):
-        """Each debt is drawn, as paid where it is paid in full, and else as wide as what stays unpaid, from 2 to 15 pixels."""
+        """Each debt is drawn, as paid where it is paid in full, and else as wide as what stays unpaid, from 2 to 15
+        pixels."""
         shown = self.flows()
         self.assertEqual(sorted(shown), sorted(expected))
         most = self.js("return JSON.parse(document.getElementById('data').textContent).mostUnpaid")
         for title, (paid, claim) in expected.items():
             unpaid = claim - paid
-            self.assertAlmostEqual(shown[title], max(2, 15 * min(1, unpaid / most)) if unpaid else 0, delta=0.06, msg=title)
+            self.assertAlmostEqual(
+                shown[title], max(2, 15 * min(1, unpaid / most)) if unpaid else 0, delta=0.06, msg=title
+            )

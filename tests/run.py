@@ -1,12 +1,12 @@
 """Runs the tests, each module of tests in a process of its own and as many at once as there are processors.
 
-`run.py` runs all modules test_*.py beside it, `run.py MODULE...` these alone. Those of the package, test_client_*, are run by a Python
-that has pandas, numpy and networkx where there is one; with `--without NAMES` as if the packages of these names, with commas between,
-were missing. Each test that was skipped has a line with its reason; the last line is `N passed, M failed`, with `, K skipped` where some
-were. The status is 0 where none failed.
+`run.py` runs all modules test_*.py beside it, `run.py MODULE...` these alone. Those of the package, test_client_*,
+are run by a Python that has pandas, numpy and networkx where there is one; with `--without NAMES` as if the packages
+of these names, with commas between, were missing. Each test that was skipped has a line with its reason; the last
+line is `N passed, M failed`, with `, K skipped` where some were. The status is 0 where none failed.
 
-With `--skips-fail FILE` a skip counts as a failure, but for those that the file names: a line has the name of a test, a class or a
-module, and then the reason. Each `--note TEXT` is a line before the last.
+With `--skips-fail FILE` a skip counts as a failure, but for those that the file names: a line has the name of a test,
+a class or a module, and then the reason. Each `--note TEXT` is a line before the last.
 """
 import argparse
 import concurrent.futures
@@ -28,8 +28,8 @@ COUNTS = re.compile(r"([0-9]+) passed, ([0-9]+) failed(?:, ([0-9]+) skipped)?")
 
 
 class Told(unittest.TextTestResult):
-    """A result that counts each test once: as failed, else as skipped, else as passed. A test during which the mode of a device changed has
-    failed, and so may one that ran beside it; the mode is put right."""
+    """A result that counts each test once: as failed, else as skipped, else as passed. A test during which the mode
+    of a device changed has failed, and so may one that ran beside it; the mode is put right."""
 
     def __init__(self, *words, **options):
         super().__init__(*words, **options)
@@ -110,11 +110,20 @@ def run_here(module, without):
 
 
 def run_beside(module, without):
-    """What a run of one module in another process prints, and its three counts. A run that broke off is a test that failed."""
-    python = sys.executable if without or not module.startswith("test_client_") else python_for("pandas, numpy, networkx")
+    """What a run of one module in another process prints, and its three counts. A run that broke off is a test that
+    failed."""
+    python = (
+        sys.executable if without or not module.startswith("test_client_") else python_for("pandas, numpy, networkx")
+    )
     run = [python, str(HERE / "run.py"), "--here", module, without]
-    done = subprocess.run(run, stdin=subprocess.DEVNULL, stdout=subprocess.PIPE, stderr=subprocess.STDOUT,
-                          encoding="utf-8", errors="backslashreplace")
+    done = subprocess.run(
+        run,
+        stdin=subprocess.DEVNULL,
+        stdout=subprocess.PIPE,
+        stderr=subprocess.STDOUT,
+        encoding="utf-8",
+        errors="backslashreplace",
+    )
     lines = done.stdout.splitlines()
     counts = COUNTS.fullmatch(lines[-1]) if lines else None
     if not counts:
@@ -144,14 +153,16 @@ def not_allowed(skips, listed):
 
 
 def main(words):
-    # Started in the background a shell leaves interrupts ignored, `nohup` the end of the terminal, and each program below would
-    # ignore them too.
+    # Started in the background a shell leaves interrupts ignored, `nohup` the end of the terminal, and each program
+    # below would ignore them too.
     signal.signal(signal.SIGINT, signal.default_int_handler)
     signal.signal(signal.SIGHUP, signal.SIG_DFL)
     if words[:1] == ["--here"]:
         return run_here(words[1], words[2])
     options = options_of(words)
-    modules = [word.removesuffix(".py") for word in options.modules] or sorted(path.stem for path in HERE.glob("test_*.py"))
+    modules = [word.removesuffix(".py") for word in options.modules] or sorted(
+        path.stem for path in HERE.glob("test_*.py")
+    )
     # The largest first, since they take longest.
     modules.sort(key=lambda module: -(HERE / f"{module}.py").stat().st_size if (HERE / f"{module}.py").exists() else 0)
     total, skips = [0, 0, 0], []

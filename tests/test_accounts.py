@@ -54,7 +54,8 @@ globalThis.document = { createElement: () => ({ getContext: () => null }) };
 const { linesOf } = await import(%s);
 let text = "";
 for await (const part of process.stdin) text += part;
-const found = JSON.parse(text).map(([now, before]) => linesOf(now, before).map(({ was, is, rest }) => ({ was, is, rest })));
+const figures = ({ was, is, rest }) => ({ was, is, rest });
+const found = JSON.parse(text).map(([now, before]) => linesOf(now, before).map(figures));
 console.log(JSON.stringify(found));
 """
 
@@ -139,9 +140,13 @@ class Accounts(unittest.TestCase):
         """One amount is another, or stands in another line, so that the sum may still be right."""
         asked, bank, account = next(
             (asked, bank, account)
-            for asked in self.asked for bank in range(len(asked.net.banks))
+            for asked in self.asked
+            for bank in range(len(asked.net.banks))
             for account in [accounts.account_of(asked.base, asked.found, bank)]
-            if account.loss and account.outside and account.lost and len(account.unpaid) > 1
+            if account.loss
+            and account.outside
+            and account.lost
+            and len(account.unpaid) > 1
             and account.unpaid[0][1:3] != account.unpaid[1][1:3]
         )
         first, second, *others = account.unpaid
@@ -153,11 +158,14 @@ class Accounts(unittest.TestCase):
             account._replace(whole=account.whole + 1, left=account.left + 1),
             account._replace(unpaid=[second, *others]),
             account._replace(unpaid=[first, first, second, *others]),
-            *(account._replace(unpaid=[*changed, *others]) for changed in (
-                [first._replace(debtor=second.debtor), second._replace(debtor=first.debtor)],
-                [first._replace(paid=first.paid - 1), second._replace(paid=second.paid + 1)],
-                [first._replace(claim=first.claim + 1, paid=first.paid + 1), second],
-            )),
+            *(
+                account._replace(unpaid=[*changed, *others])
+                for changed in (
+                    [first._replace(debtor=second.debtor), second._replace(debtor=first.debtor)],
+                    [first._replace(paid=first.paid - 1), second._replace(paid=second.paid + 1)],
+                    [first._replace(claim=first.claim + 1, paid=first.paid + 1), second],
+                )
+            ),
         ]
         self.assertEqual(asked.faults(bank, account), [])
         for one in wrong:

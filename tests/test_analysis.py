@@ -35,7 +35,8 @@ SMALL_DEBTS = "debtor,creditor,class,claim\nA,B,1,6\nA,C,2,3\nB,C,1,4\nB,A,2,3\n
 
 
 class Solver:
-    """How banks stand by the least payments of the plain model, which are those of its quicker ways, as the networks are large."""
+    """How banks stand by the least payments of the plain model, which are those of its quicker ways, as the networks
+    are large."""
 
     def __init__(self, banks, debts):
         self.net = audit.read_network(banks, debts)
@@ -70,11 +71,21 @@ def records(text):
 
 class Analysis(Case):
     def small(self):
-        return ["--banks", self.file("small-banks.csv", SMALL_BANKS), "--debts", self.file("small-debts.csv", SMALL_DEBTS)]
+        return [
+            "--banks",
+            self.file("small-banks.csv", SMALL_BANKS),
+            "--debts",
+            self.file("small-debts.csv", SMALL_DEBTS),
+        ]
 
     def short(self):
         """The same with banks in default."""
-        return ["--banks", self.file("short-banks.csv", SMALL_BANKS.replace("A,12,", "A,5,")), "--debts", self.small()[3]]
+        return [
+            "--banks",
+            self.file("short-banks.csv", SMALL_BANKS.replace("A,12,", "A,5,")),
+            "--debts",
+            self.small()[3],
+        ]
 
     def generated(self):
         """A network of 200 banks, some of them in default."""
@@ -93,7 +104,10 @@ class Analysis(Case):
         return Solver(words[1].read_bytes(), words[3].read_bytes())
 
     def test_the_help_of_impact_says_what_the_program_calls_a_column(self):
-        self.assertIn("`defaults`, which `clearing impact` calls `falls`", " ".join(self.made("clearing-impact", "--help").split()))
+        self.assertIn(
+            "`defaults`, which `clearing impact` calls `falls`",
+            " ".join(self.made("clearing-impact", "--help").split()),
+        )
 
     def test_breaking_cuts(self):
         for name, words in self.networks():
@@ -129,7 +143,14 @@ class Analysis(Case):
                 if loss:
                     self.assertEqual(after(loss - 1), "sound")
         self.refused("clearing-breaking", 4, "no bank has the name 'Z'\n", *words, "--loss", "Z")
-        self.refused("clearing-breaking", 4, "no bank has the name 'jura '; is it 'Jura'?\n", *example("twelve-banks"), "--loss", "jura ")
+        self.refused(
+            "clearing-breaking",
+            4,
+            "no bank has the name 'jura '; is it 'Jura'?\n",
+            *example("twelve-banks"),
+            "--loss",
+            "jura ",
+        )
 
     def test_impacts(self):
         for name, words in self.networks():
@@ -166,7 +187,9 @@ class Analysis(Case):
                 saved = self.file("saved.csv")
                 found = records(self.made("clearing-rescues", *words, "--saved", saved))
                 self.assertEqual(sorted(bank for bank, *_ in found), sorted(names[i] for i in short))
-                given = lambda i, units: solver.standings(tuple(c + units * (i == j) for j, c in enumerate(solver.cash)))
+                given = lambda i, units: solver.standings(
+                    tuple(c + units * (i == j) for j, c in enumerate(solver.cash))
+                )
                 listed, per_unit = [], []
                 for bank, added, also, still in found:
                     i, added = names.index(bank), int(added)
@@ -187,10 +210,15 @@ class Analysis(Case):
     def check_draws(self, words):
         solver = self.solver(words)
         names = [bank.name.decode() for bank in solver.net.banks]
-        past = self.file("past.csv", f"year,cut,{names[3]},{names[1]}\n2001,10,0,100\n2008,600,900,50.5\n2020,100,5e1,-4\n2021,2000,0,0\n")
+        past = self.file(
+            "past.csv",
+            f"year,cut,{names[3]},{names[1]}\n2001,10,0,100\n2008,600,900,50.5\n2020,100,5e1,-4\n2021,2000,0,0\n",
+        )
         losses = [(10, {1: 100}), (600, {3: 900, 1: 51}), (100, {3: 50}), (1000, {})]
         each = self.file("each.csv")
-        first, second, third = self.made("clearing-draws", *words, "--past", past, "--draws", 60, "--seed", 4, "--each", each).split("\n\n")
+        first, second, third = self.made(
+            "clearing-draws", *words, "--past", past, "--draws", 60, "--seed", 4, "--each", each
+        ).split("\n\n")
         chance = random.Random(4)
         drawn = [losses[int(chance.random() * 4)] for _ in range(60)]
         lines, columns, causes = [], [], [[0, 0] for _ in solver.cash]
@@ -200,7 +228,9 @@ class Analysis(Case):
             unpaid = sum(numbers[3] - numbers[2] for _, numbers, _ in standings)
             outside = sum(bank.outside - numbers[1] for bank, (_, numbers, _) in zip(solver.net.banks, standings))
             defaults, fundamental = len(states) - states.count("sound"), states.count("fundamental")
-            gone = sum(solver.cash) - sum(max(0, c - c * cut // 1000 - lost.get(i, 0)) for i, c in enumerate(solver.cash))
+            gone = sum(solver.cash) - sum(
+                max(0, c - c * cut // 1000 - lost.get(i, 0)) for i, c in enumerate(solver.cash)
+            )
             lines.append([str(number), str(cut), *map(str, (gone, defaults, fundamental, unpaid, outside))])
             columns.append((defaults, fundamental, unpaid, outside, gone))
             for i, state in enumerate(states):
@@ -210,7 +240,11 @@ class Analysis(Case):
         for (name, *numbers), column in zip(records(first), zip(*columns)):
             column = sorted(column)
             at = [sum(1 for _ in column) * percent for percent in (1, 5, 25, 50, 75, 95, 99)]
-            wanted = [column[0], *(next(n for k, n in enumerate(column, 1) if 100 * k >= rank) for rank in at), column[-1]]
+            wanted = [
+                column[0],
+                *(next(n for k, n in enumerate(column, 1) if 100 * k >= rank) for rank in at),
+                column[-1],
+            ]
             self.assertEqual(numbers, [*map(str, wanted), f"{statistics.fmean(column):.3f}"], name)
         counts = [column[0] for column in columns]
         self.assertEqual(records(second), [[str(n), str(counts.count(n))] for n in sorted(set(counts))])
@@ -218,7 +252,9 @@ class Analysis(Case):
 
     def test_draws_have_the_moments_that_are_asked_for(self):
         known = {"A": 0, "B": 1, "C": 2}
-        table = self.file("moments.csv", "of,mean,deviation,cut,A,B\ncut,300,100,1,0.5,-0.5\nA,50,10,0.5,1,0.25\nB,7,2,-0.5,0.25,1\n")
+        table = self.file(
+            "moments.csv", "of,mean,deviation,cut,A,B\ncut,300,100,1,0.5,-0.5\nA,50,10,0.5,1,0.25\nB,7,2,-0.5,0.25,1\n"
+        )
         source, chance = losses.Moments(table, known), random.Random(1)
         columns = list(zip(*(source.draw(chance) for _ in range(20_000))))
         for column, mean, deviation in zip(columns, (300, 50, 7), (100, 10, 2)):
@@ -240,12 +276,17 @@ class Analysis(Case):
     def test_faulty_tables_of_losses_are_refused(self):
         words = self.small()
         for option, text, message in [
-            ("--moments", "of,mean\nA,1\n", "not the header"), ("--moments", "of,mean,deviation\nZ,1,1\n", "no bank has the name 'Z'"),
-            ("--moments", "of,mean,deviation\nA,1,-1\n", "line 2: '-1'"), ("--moments", "of,mean,deviation\nA,nan,1\n", "line 2: 'nan'"),
-            ("--moments", "of,mean,deviation\nA,1,1\nA,1,1\n", "twice"), ("--moments", "of,mean,deviation,B\nA,1,1,1\n", "not named as"),
+            ("--moments", "of,mean\nA,1\n", "not the header"),
+            ("--moments", "of,mean,deviation\nZ,1,1\n", "no bank has the name 'Z'"),
+            ("--moments", "of,mean,deviation\nA,1,-1\n", "line 2: '-1'"),
+            ("--moments", "of,mean,deviation\nA,nan,1\n", "line 2: 'nan'"),
+            ("--moments", "of,mean,deviation\nA,1,1\nA,1,1\n", "twice"),
+            ("--moments", "of,mean,deviation,B\nA,1,1,1\n", "not named as"),
             ("--moments", "of,mean,deviation,A,B\nA,1,1,1,0.5\nB,1,1,0.4,1\n", "not symmetric"),
             ("--moments", "of,mean,deviation,A,B,C\nA,1,1,1,1,0\nB,1,1,1,1,1\nC,1,1,0,1,1\n", "no losses have"),
-            ("--past", "year,A\n2001\n", "as many fields"), ("--past", "year,A\n", "no line below"), ("--past", "year,A\n1,inf\n", "'inf'"),
+            ("--past", "year,A\n2001\n", "as many fields"),
+            ("--past", "year,A\n", "no line below"),
+            ("--past", "year,A\n1,inf\n", "'inf'"),
             ("--past", b"year,A\n\xff,1\n", "UTF-8"),
         ]:
             self.refused("clearing-draws", 4, message, *words, option, self.file("table.csv", text))
@@ -256,41 +297,84 @@ class Analysis(Case):
 
     def commands(self):
         past = self.file("past.csv", "year,cut\n2001,10\n2008,600\n")
-        return [["clearing-breaking"], ["clearing-impact"], ["clearing-rescues"], ["clearing-draws", "--past", past, "--draws", "9"]]
+        return [
+            ["clearing-breaking"],
+            ["clearing-impact"],
+            ["clearing-rescues"],
+            ["clearing-draws", "--past", past, "--draws", "9"],
+        ]
 
     def writers(self):
         """Each tool, with each option that names a file of records to write."""
-        for command, options in zip(self.commands(), [["--output"], ["--ranking", "--matrix", "--defaults"], ["--output", "--saved"], ["--output", "--each"]]):
+        for command, options in zip(
+            self.commands(),
+            [["--output"], ["--ranking", "--matrix", "--defaults"], ["--output", "--saved"], ["--output", "--each"]],
+        ):
             for option in options:
                 yield [*command, *self.short(), option]
-        yield ["clearing-shock", *self.short()[:2], "--scenarios", self.file("s.toml", '[[scenario]]\nname = "s"\n'), "--scenario", 1, "--output"]
+        yield [
+            "clearing-shock",
+            *self.short()[:2],
+            "--scenarios",
+            self.file("s.toml", '[[scenario]]\nname = "s"\n'),
+            "--scenario",
+            1,
+            "--output",
+        ]
 
     def test_names_of_any_kind(self):
         """The same numbers as with plain names."""
         names = ["total", "cash", "-x", "it's", "back\\slash", "$a b", "é\u2028é", "bank", "estate", "scenario,"[:-1]]
-        banks = "name,cash,rule,outside\n{}" + "".join(f"{{{k}}},{3 * k},{rule},{k % 3}\n" for k, rule in enumerate(model.RULES + model.RULES[:4]))
+        banks = "name,cash,rule,outside\n{}" + "".join(
+            f"{{{k}}},{3 * k},{rule},{k % 3}\n" for k, rule in enumerate(model.RULES + model.RULES[:4])
+        )
         debts = "debtor,creditor,class,claim\n" + "".join(
-            f"{{{k}}},{{{(k * 3 + step) % 10}}},{1 + k % 2},{7 + k}\n" for k in range(10) for step in (1, 2) if (k * 3 + step) % 10 != k)
+            f"{{{k}}},{{{(k * 3 + step) % 10}}},{1 + k % 2},{7 + k}\n"
+            for k in range(10)
+            for step in (1, 2)
+            if (k * 3 + step) % 10 != k
+        )
         made = {}
         for kind, each in (("plain", [f"P{k}" for k in range(10)]), ("hostile", names)):
-            words = ["--banks", self.file("b.csv", banks.replace("{}", "").format(*each)), "--debts", self.file("d.csv", debts.format(*each))]
+            words = [
+                "--banks",
+                self.file("b.csv", banks.replace("{}", "").format(*each)),
+                "--debts",
+                self.file("d.csv", debts.format(*each)),
+            ]
             texts = [self.made(*command, *words) for command in self.commands()]
             texts.append(self.made("clearing-breaking", *words, "--loss=" + each[4]))
             made[kind] = texts
-        plain = ["\n".join(",".join([names[int(line[1])] if line[:1] == "P" else line.split(",")[0], *line.split(",")[1:]])
-                           for line in text.split("\n")) for text in made["plain"]]
+        plain = [
+            "\n".join(
+                ",".join([names[int(line[1])] if line[:1] == "P" else line.split(",")[0], *line.split(",")[1:]])
+                for line in text.split("\n")
+            )
+            for text in made["plain"]
+        ]
         self.assertEqual(made["hostile"], plain)
 
     def test_no_input_is_written_over(self):
         words = self.small()
         before = [path.read_bytes() for path in (words[1], words[3])]
-        for command, options in zip(self.commands(), [["--output", "--picture"], ["--ranking", "--matrix", "--defaults", "--picture"],
-                                                      ["--output", "--saved"], ["--output", "--each", "--picture"]]):
+        for command, options in zip(
+            self.commands(),
+            [
+                ["--output", "--picture"],
+                ["--ranking", "--matrix", "--defaults", "--picture"],
+                ["--output", "--saved"],
+                ["--output", "--each", "--picture"],
+            ],
+        ):
             for option in options:
                 self.refused(command[0], 2, "would be written over", *command[1:], *words, option, words[3])
             same = self.folder / "same.csv"
-            self.refused(command[0], 2, "would be written over", *command[1:], *words, options[0], same, options[1], same)
-            self.refused(command[0], 5, "cannot write", *command[1:], *words, options[0], self.folder / "none" / "out.csv")
+            self.refused(
+                command[0], 2, "would be written over", *command[1:], *words, options[0], same, options[1], same
+            )
+            self.refused(
+                command[0], 5, "cannot write", *command[1:], *words, options[0], self.folder / "none" / "out.csv"
+            )
         self.assertEqual([path.read_bytes() for path in (words[1], words[3])], before)
 
     def test_a_file_that_is_written_keeps_its_mode(self):
@@ -317,14 +401,27 @@ class Analysis(Case):
         for name, *words in self.writers():
             with self.subTest(tool=name, option=words[-1]):
                 run = [*prefix, sys.executable, "-B", str(file_of(name))]
-                tried = [[*run, "--help"], [*prefix, sys.executable, "-c", "import os, sys; sys.exit(not os.access(sys.argv[1], os.X_OK))", PROGRAM]]
+                tried = [
+                    [*run, "--help"],
+                    [
+                        *prefix,
+                        sys.executable,
+                        "-c",
+                        "import os, sys; sys.exit(not os.access(sys.argv[1], os.X_OK))",
+                        PROGRAM,
+                    ],
+                ]
                 if any(subprocess.run(each, capture_output=True).returncode for each in tried):
                     self.skipTest("another user may not read the tools or the program")
                 kept = self.file("kept.csv", "old")
                 kept.chmod(0o444)
                 before = sorted(os.listdir(self.folder))
-                done = subprocess.run([*run, *map(str, words), str(kept)], stdin=subprocess.DEVNULL, capture_output=True, encoding="utf-8")
-                self.assertEqual((done.returncode, done.stderr), (5, f"{name}: cannot write {kept}: Permission denied\n"))
+                done = subprocess.run(
+                    [*run, *map(str, words), str(kept)], stdin=subprocess.DEVNULL, capture_output=True, encoding="utf-8"
+                )
+                self.assertEqual(
+                    (done.returncode, done.stderr), (5, f"{name}: cannot write {kept}: Permission denied\n")
+                )
                 self.assertEqual((kept.read_text(), sorted(os.listdir(self.folder))), ("old", before))
                 kept.unlink()
 
@@ -349,7 +446,12 @@ class Analysis(Case):
         style.save(Figure(), str(link), folders=False)
         self.assertEqual((kept.read_text(), kept.stat().st_mode & 0o777, link.is_symlink()), ("new", 0o600, True))
         self.assertEqual(kinds, ["svg"])
-        for place, figure in ((kept, Broken()), (self.folder / "none.svg", Broken()), (self.folder / "none" / "a.svg", Figure()), (full, Figure())):
+        for place, figure in (
+            (kept, Broken()),
+            (self.folder / "none.svg", Broken()),
+            (self.folder / "none" / "a.svg", Figure()),
+            (full, Figure()),
+        ):
             with self.assertRaisesRegex(runner.ToolError, f"cannot write {place}: ") as failed:
                 style.save(figure, str(place), folders=False)
             self.assertEqual((failed.exception.status, kept.read_text()), (1, "new"))
@@ -358,7 +460,12 @@ class Analysis(Case):
 
     def test_an_output_that_cannot_be_written_ends_with_5(self):
         for name, *words in self.writers():
-            for place in (self.folder / "none" / "out.csv", self.folder, self.file("file", "") / "out.csv", "/dev/full"):
+            for place in (
+                self.folder / "none" / "out.csv",
+                self.folder,
+                self.file("file", "") / "out.csv",
+                "/dev/full",
+            ):
                 with self.subTest(tool=name, option=words[-1], place=place):
                     self.refused(name, 5, f"cannot write {place}: ", *words, place)
             with open("/dev/full", "wb") as full:
@@ -368,16 +475,25 @@ class Analysis(Case):
     def test_failures_are_told(self):
         words = self.small()
         for command in self.commands():
-            self.refused(command[0], 3, "cannot read", *command[1:], "--banks", self.folder / "none.csv", "--debts", words[3])
-            self.refused(command[0], 4, "debts row 0: header (1)", *command[1:], "--banks", words[1], "--debts", words[1])
+            self.refused(
+                command[0], 3, "cannot read", *command[1:], "--banks", self.folder / "none.csv", "--debts", words[3]
+            )
+            self.refused(
+                command[0], 4, "debts row 0: header (1)", *command[1:], "--banks", words[1], "--debts", words[1]
+            )
 
     def with_program(self, script, name, *words, **more):
         """A run of a tool by Popen, where this shell script stands in the program's place."""
         program = self.file("program", f"#!/bin/sh\n{script}\nexec '{PROGRAM}' \"$@\"\n")
         program.chmod(0o755)
         running = subprocess.Popen(
-            [*run_of(name), *map(str, words)], env={**os.environ, "CLEARING": str(program)},
-            stdin=subprocess.DEVNULL, stdout=subprocess.PIPE, stderr=subprocess.PIPE, **more)
+            [*run_of(name), *map(str, words)],
+            env={**os.environ, "CLEARING": str(program)},
+            stdin=subprocess.DEVNULL,
+            stdout=subprocess.PIPE,
+            stderr=subprocess.PIPE,
+            **more,
+        )
         self.addCleanup(running.stdout.close)
         self.addCleanup(running.stderr.close)
         return running
@@ -398,7 +514,9 @@ class Analysis(Case):
             self.assertEqual((running.returncode, output), (1, b""), messages)
             self.assertIn("did not print", messages.decode())
         for command in self.commands():
-            running = self.with_program(f'case $1 in {ASKED}) echo "clearing: out of memory" >&2; exit 6;; esac', *command, *words)
+            running = self.with_program(
+                f'case $1 in {ASKED}) echo "clearing: out of memory" >&2; exit 6;; esac', *command, *words
+            )
             output, messages = running.communicate(timeout=60)
             self.assertEqual((running.returncode, output), (1, b""))
             self.assertIn("out of memory", messages.decode())
@@ -408,8 +526,14 @@ class Analysis(Case):
         for command in self.commands():
             output = self.folder / "out.csv"
             begun = self.folder / f"{command[0]}.begun"
-            running = self.with_program(f'case $1 in {ASKED}) echo $$ >>"{begun}"; exec sleep 60;; esac', *command, *words,
-                                        "--ranking" if command[0] == "clearing-impact" else "--output", output, start_new_session=True)
+            running = self.with_program(
+                f'case $1 in {ASKED}) echo $$ >>"{begun}"; exec sleep 60;; esac',
+                *command,
+                *words,
+                "--ranking" if command[0] == "clearing-impact" else "--output",
+                output,
+                start_new_session=True,
+            )
             deadline = time.monotonic() + 30
             while not begun.exists() and time.monotonic() < deadline:
                 time.sleep(0.02)
@@ -419,7 +543,9 @@ class Analysis(Case):
             self.assertLess(time.monotonic() - sent, 20)
             self.assertFalse(output.exists())
             # What is ended may take a moment to be gone.
-            while (left := [number for number in begun.read_text().split() if is_running(number)]) and time.monotonic() - sent < 20:
+            while (
+                left := [number for number in begun.read_text().split() if is_running(number)]
+            ) and time.monotonic() - sent < 20:
                 time.sleep(0.05)
             self.assertEqual(left, [])
 
@@ -449,8 +575,13 @@ else:
                 begun = self.folder / "begun"
                 begun.unlink(missing_ok=True)
                 environment = {**os.environ, "CLEARING": str(program), "PYTHONPATH": str(ROOT / "python/src")}
-                done = subprocess.run([sys.executable, "-c", code, str(begun), "SIGINT", package], env=environment,
-                                      stdin=subprocess.DEVNULL, capture_output=True, timeout=60)
+                done = subprocess.run(
+                    [sys.executable, "-c", code, str(begun), "SIGINT", package],
+                    env=environment,
+                    stdin=subprocess.DEVNULL,
+                    capture_output=True,
+                    timeout=60,
+                )
                 self.assertEqual(done.returncode, -signal.SIGINT, done.stderr.decode())
                 self.assertFalse(is_running(begun.read_text().strip()))
 
@@ -495,15 +626,34 @@ else:
         past = self.file("past.csv", "year,cut\n" + "".join(f"{cut},{cut}\n" for cut in range(1000)))
         banks, debts = self.file("g-banks.csv"), self.file("g-debts.csv")
         self.made("clearing-gen-files", "--seed", 5, "--size", 600, "--tries", 9000, "--banks", banks, "--debts", debts)
-        banks.write_text("".join(line if at == 0 else ",".join([line.split(",")[0], "9", line.split(",")[2]])
-                                 for at, line in enumerate(banks.read_text().splitlines(keepends=True))))
+        banks.write_text(
+            "".join(
+                line if at == 0 else ",".join([line.split(",")[0], "9", line.split(",")[2]])
+                for at, line in enumerate(banks.read_text().splitlines(keepends=True))
+            )
+        )
         place = self.folder / "place"
         place.mkdir()
         for tries in range(6):
             running = subprocess.Popen(
-                [sys.executable, str(ROOT / "bin/clearing-draws"), "--banks", str(banks), "--debts", str(debts), "--past", str(past), "--draws", "9999"],
-                env={**os.environ, "CLEARING": PROGRAM, "TMPDIR": str(place)}, stdin=subprocess.DEVNULL, stdout=subprocess.PIPE,
-                stderr=subprocess.PIPE, start_new_session=True)
+                [
+                    sys.executable,
+                    str(ROOT / "bin/clearing-draws"),
+                    "--banks",
+                    str(banks),
+                    "--debts",
+                    str(debts),
+                    "--past",
+                    str(past),
+                    "--draws",
+                    "9999",
+                ],
+                env={**os.environ, "CLEARING": PROGRAM, "TMPDIR": str(place)},
+                stdin=subprocess.DEVNULL,
+                stdout=subprocess.PIPE,
+                stderr=subprocess.PIPE,
+                start_new_session=True,
+            )
             deadline = time.monotonic() + 30
             while len(list(place.glob("*/*"))) < 1 + tries % 2 and time.monotonic() < deadline:
                 time.sleep(0.01)
@@ -516,8 +666,11 @@ else:
     def test_a_terminal_is_told_how_far_it_is(self):
         pty = importlib.import_module("pty")
         main, other = pty.openpty()
-        running = subprocess.Popen([sys.executable, str(ROOT / "bin/clearing-breaking"), *map(str, self.small()), "--loss", "A"],
-                                   stdout=subprocess.DEVNULL, stderr=other)
+        running = subprocess.Popen(
+            [sys.executable, str(ROOT / "bin/clearing-breaking"), *map(str, self.small()), "--loss", "A"],
+            stdout=subprocess.DEVNULL,
+            stderr=other,
+        )
         os.close(other)
         said = b""
         try:
@@ -552,11 +705,11 @@ else:
 ASKED = "breaking|impact|rescues|outcomes"
 
 # All banks are sound in the last scenario of a file, and in no other.
-LYING = '''if [ "$1" = stress ]; then
+LYING = """if [ "$1" = stress ]; then
     "%s" "$@" | awk -v last="$(grep -c '^..scenario..$' "$5")" '/^scenario,/ { at++ }
         at == last { sub(/,(contagion|fundamental)$/, ",sound") } { print }'
     exit
-fi'''
+fi"""
 
 if __name__ == "__main__":
     import unittest
@@ -578,14 +731,20 @@ class Once(unittest.TestCase):
 
     def test_the_debts_are_gone_over_once_however_many_banks_fall(self):
         names = [f"B{number}" for number in range(200)]
-        debts = self.Debts(Debt(one, other, 1, 1 + at % 3) for at, (one, other) in enumerate(zip(names, [*names[1:], names[0]])))
-        network = queries.Network(names, [at % 2 for at in range(200)], ["order"] * 200, [at % 5 == 0 for at in range(200)], debts)
+        debts = self.Debts(
+            Debt(one, other, 1, 1 + at % 3) for at, (one, other) in enumerate(zip(names, [*names[1:], names[0]]))
+        )
+        network = queries.Network(
+            names, [at % 2 for at in range(200)], ["order"] * 200, [at % 5 == 0 for at in range(200)], debts
+        )
         fallen = impact.fallen_of(network, [Harm(one, of, 1, True) for one in names for of in (one, names[0])])
         self.assertEqual((debts.times, len(fallen)), (1, 400))
         for at, (one, of, state) in enumerate(fallen):
             place = at // 2
             spare = (1 + (place - 1) % 200 % 3) - (1 + place % 3) - (place % 5 == 0)
-            self.assertEqual((one, state), (names[place], "fundamental" if of == one and spare < 0 else "contagion"), place)
+            self.assertEqual(
+                (one, state), (names[place], "fundamental" if of == one and spare < 0 else "contagion"), place
+            )
         debts.times = 0
         depths = list(breaking.depths_of(network, 1000, range(200)))
         self.assertEqual((debts.times, 0 < len(depths) <= 200), (1, True))

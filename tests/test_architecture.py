@@ -11,7 +11,8 @@ from common import ROOT, tool
 SPEC = importlib.util.spec_from_file_location("architecture", ROOT / "tools/dev/architecture.py")
 architecture = importlib.util.module_from_spec(SPEC)
 SPEC.loader.exec_module(architecture)
-# A call, or a function that is passed on; and a function that a file offers, with the first line of its body, which a law has not.
+# A call, or a function that is passed on; and a function that a file offers, with the first line of its body, which a
+# law has not.
 CALL = re.compile(r"(?<!fn )\b(\w+)\b(?=\(|::<|\)|,)")
 OFFERED = re.compile(r"^( *)pub (?:const )?fn (\w+)(?:.*\n)*?^ *(\{\}|\{)$", re.MULTILINE)
 # A name in a file of definitions or of proofs, a line that opens a block of them, the first line of a lemma, and a line
@@ -19,7 +20,10 @@ OFFERED = re.compile(r"^( *)pub (?:const )?fn (\w+)(?:.*\n)*?^ *(\{\}|\{)$", re.
 NAME = re.compile(r"[^\W\d][\w'-]*")
 BLOCK = re.compile(r" *(?:pub )?(?P<kind>module|record|data)\b")
 LEMMA = re.compile(r" *(?:(?:pub|abbrev|unfoldable) )*(?P<name>[^\s(){}\[\],;:=.]+) :(?: |$)")
-HEAD = re.compile(r"(?P<indent> *)(?P<kind>(?:(?:pub|abbrev|unfoldable|record|module) )*)(?P<name>[^\W\d][\w'-]*)(?= *[({:=]| [\w(\[])")
+HEAD = re.compile(
+    r"(?P<indent> *)(?P<kind>(?:(?:pub|abbrev|unfoldable|record|module) )*)(?P<name>[^\W\d][\w'-]*)(?= *[({:=]|"
+    r" [\w(\[])"
+)
 
 
 def code_of(path):
@@ -49,17 +53,23 @@ class Picture(unittest.TestCase):
         text = " ".join((ROOT / "docs/ARCHITECTURE.md").read_text(encoding="utf-8").split())
         crates = architecture.stands_on()
         tests = [crate for crate in crates if crate.endswith("_tests")]
-        self.assertIn(f"over {len(crates) - len(tests) - 2} library crates", text, "all but those of tests, clear_main and net_samples")
+        self.assertIn(
+            f"over {len(crates) - len(tests) - 2} library crates",
+            text,
+            "all but those of tests, clear_main and net_samples",
+        )
         self.assertEqual(len(tests), 4)
         self.assertIn("Tests stand in four crates of their own", text)
 
     def test_its_figures_are_constants_of_the_code(self):
         text = " ".join((ROOT / "docs/ARCHITECTURE.md").read_text(encoding="utf-8").split())
-        for words, file, constant in (("after a round of 512 visits", "settle/src/teams.rt", "MANY_VISITS: u64 = 512;"),
-                                      ("through a room of 64 KB", "raise_journal/src/lib.rt", "ROOM: usize = 65_536;"),
-                                      ("in a buffer of 256 bytes", "clr_edge/src/line.rt", "MAX_LINE: usize = 256;"),
-                                      ("is tried 64 times", "clr_host/src/std_sink.rt", "TRIES: u32 = 64;"),
-                                      ("those of up to eight workers", "settle/src/noting.rt", "FEW_WORKERS: usize = 8;")):
+        for words, file, constant in (
+            ("after a round of 512 visits", "settle/src/teams.rt", "MANY_VISITS: u64 = 512;"),
+            ("through a room of 64 KB", "raise_journal/src/lib.rt", "ROOM: usize = 65_536;"),
+            ("in a buffer of 256 bytes", "clr_edge/src/line.rt", "MAX_LINE: usize = 256;"),
+            ("is tried 64 times", "clr_host/src/std_sink.rt", "TRIES: u32 = 64;"),
+            ("those of up to eight workers", "settle/src/noting.rt", "FEW_WORKERS: usize = 8;"),
+        ):
             with self.subTest(words=words):
                 self.assertIn(words, text)
                 self.assertIn(constant, (ROOT / "crates" / file).read_text(encoding="utf-8"))
@@ -68,8 +78,10 @@ class Picture(unittest.TestCase):
         below = architecture.stands_on()
         self.assertEqual(architecture.faults_of(below), [])
         wrong = {**below, "clr_net": ["settle"], "another": []}
-        self.assertEqual(architecture.faults_of(wrong),
-                         ["another is in no layer", "clr_net stands on settle, which is in a higher layer"])
+        self.assertEqual(
+            architecture.faults_of(wrong),
+            ["another is in no layer", "clr_net stands on settle, which is in a higher layer"],
+        )
         del wrong["stress"]
         self.assertIn("stress is in a layer, but not in crates.txt", architecture.faults_of(wrong))
 
@@ -82,19 +94,48 @@ class Picture(unittest.TestCase):
 
 class Unused(unittest.TestCase):
     def test_what_the_program_does_not_call_stands_in_modules_called_plain(self):
-        texts = {path: code_of(path) for path in sorted((ROOT / "crates").glob("*/src/**/*.rt"))
-                 if not re.match(r".*_tests$|net_samples$", path.relative_to(ROOT / "crates").parts[0])}
+        texts = {
+            path: code_of(path)
+            for path in sorted((ROOT / "crates").glob("*/src/**/*.rt"))
+            if not re.match(r".*_tests$|net_samples$", path.relative_to(ROOT / "crates").parts[0])
+        }
         plain = {path for path in texts if path.name == "plain.rt" or path.parent.name == "plain"}
         called = {name for path, text in texts.items() if path not in plain for name in CALL.findall(text)}
-        offered = [(path, deep, name) for path, text in texts.items() for deep, name, body in OFFERED.findall(text) if body != "{}"]
-        self.assertEqual([f"{path.relative_to(ROOT)}: {name}" for path, _, name in offered
-                          if path not in plain and path.name != "mem_sink.rt" and name not in called], [], "a sink in memory is there for tests")
-        self.assertEqual([f"{path.relative_to(ROOT)}: {name}" for path, deep, name in offered
-                          if path in plain and not deep and name in called], [], "of methods the name alone does not tell")
+        offered = [
+            (path, deep, name)
+            for path, text in texts.items()
+            for deep, name, body in OFFERED.findall(text)
+            if body != "{}"
+        ]
+        self.assertEqual(
+            [
+                f"{path.relative_to(ROOT)}: {name}"
+                for path, _, name in offered
+                if path not in plain and path.name != "mem_sink.rt" and name not in called
+            ],
+            [],
+            "a sink in memory is there for tests",
+        )
+        self.assertEqual(
+            [
+                f"{path.relative_to(ROOT)}: {name}"
+                for path, deep, name in offered
+                if path in plain and not deep and name in called
+            ],
+            [],
+            "of methods the name alone does not tell",
+        )
 
     def test_each_crate_names_all_that_it_is_listed_to_stand_on(self):
-        self.assertEqual([f"{crate} is listed to stand on {other}, which none of its files names"
-                          for crate, others in listed().items() for other in others if other not in named_in(crate)], [])
+        self.assertEqual(
+            [
+                f"{crate} is listed to stand on {other}, which none of its files names"
+                for crate, others in listed().items()
+                for other in others
+                if other not in named_in(crate)
+            ],
+            [],
+        )
 
     def test_each_definition_and_lemma_that_a_file_offers_is_named_elsewhere(self):
         self.assertEqual(unnamed(ROOT / "crates"), [], "worked cases apart, which are shown where they stand")
@@ -103,14 +144,38 @@ class Unused(unittest.TestCase):
 class Comments(unittest.TestCase):
     def test_each_lemma_has_a_comment_above_it(self):
         files = sorted((ROOT / "crates").glob("*/proofs/*.antt"))
-        self.assertEqual([f"{path.relative_to(ROOT)}:{lemma}" for path in files
-                          for lemma in without_comment(path.read_text(encoding="utf-8").splitlines())], [])
+        self.assertEqual(
+            [
+                f"{path.relative_to(ROOT)}:{lemma}"
+                for path in files
+                for lemma in without_comment(path.read_text(encoding="utf-8").splitlines())
+            ],
+            [],
+        )
 
     def test_a_lemma_without_one_is_named(self):
-        lines = ["-- what it says", "pub first : ℕ", "first = 1", "", "abbrev second : ℕ", "second = 2", "",
-                 "record Pair : Type 0 where", "  left : ℕ", "", "-- of some n", "module _ (n : ℕ) where",
-                 "  third : ℕ", "  third = other", "    where", "      other : ℕ", "      other = n", "",
-                 "pub fourth : ℕ → ℕ", "    → ℕ"]
+        lines = [
+            "-- what it says",
+            "pub first : ℕ",
+            "first = 1",
+            "",
+            "abbrev second : ℕ",
+            "second = 2",
+            "",
+            "record Pair : Type 0 where",
+            "  left : ℕ",
+            "",
+            "-- of some n",
+            "module _ (n : ℕ) where",
+            "  third : ℕ",
+            "  third = other",
+            "    where",
+            "      other : ℕ",
+            "      other = n",
+            "",
+            "pub fourth : ℕ → ℕ",
+            "    → ℕ",
+        ]
         self.assertEqual(without_comment(lines), ["5: second", "13: third", "19: fourth"])
 
 
@@ -140,27 +205,43 @@ def listed():
 
 def named_in(crate):
     """The crates that the sources, definitions and proofs of a crate name, among other words before two colons."""
-    files = [path for part in ("src", "specs", "proofs") for path in (ROOT / "crates" / crate / part).rglob("*")
-             if path.suffix in (".rt", ".antt")]
+    files = [
+        path
+        for part in ("src", "specs", "proofs")
+        for path in (ROOT / "crates" / crate / part).rglob("*")
+        if path.suffix in (".rt", ".antt")
+    ]
     text = "\n".join(re.sub(r"//.*|--.*", "", path.read_text(encoding="utf-8")) for path in files)
     return {name for pair in re.findall(r"\bRattle\.(\w+)\.|\b(\w+)::", text) for name in pair}
 
 
 def unnamed(crates):
-    """The definitions and lemmas that a file of specs/ or proofs/ offers to others, and that only the lines that begin with their names
-    name. The parts of a record are not looked for, since a tactic reads them without their names."""
-    files = [path for part in ("src", "specs", "proofs") for path in crates.glob(f"*/{part}/**/*") if path.suffix in (".rt", ".antt")]
+    """The definitions and lemmas that a file of specs/ or proofs/ offers to others, and that only the lines that
+    begin with their names name. The parts of a record are not looked for, since a tactic reads them without their
+    names."""
+    files = [
+        path
+        for part in ("src", "specs", "proofs")
+        for path in crates.glob(f"*/{part}/**/*")
+        if path.suffix in (".rt", ".antt")
+    ]
     texts = {path: re.sub(r"--.*|//.*", "", path.read_text(encoding="utf-8")) for path in files}
     named = collections.Counter(word for text in texts.values() for word in NAME.findall(text))
     lost = []
-    for path in sorted(path for path in files if path.parent.name in ("specs", "proofs") and not path.stem.endswith("Cases")):
+    for path in sorted(
+        path for path in files if path.parent.name in ("specs", "proofs") and not path.stem.endswith("Cases")
+    ):
         heads = [head for head in map(HEAD.match, texts[path].splitlines()) if head]
         begun = collections.Counter((head["indent"], head["name"]) for head in heads)
         above = []
         for head in heads:
             above = [line for line in above if len(line["indent"]) < len(head["indent"])]
             in_record = above and "record" in above[-1]["kind"].split()
-            if "pub" in head["kind"].split() and not in_record and named[head["name"]] == begun[head["indent"], head["name"]]:
+            if (
+                "pub" in head["kind"].split()
+                and not in_record
+                and named[head["name"]] == begun[head["indent"], head["name"]]
+            ):
                 lost.append(f"{path.relative_to(crates)}: {head['name']}")
             above.append(head)
     return lost

@@ -1,4 +1,5 @@
-"""The package for Python on a program that lies, goes on, or prints without an end; and what it leaves where it is ended itself."""
+"""The package for Python on a program that lies, goes on, or prints without an end; and what it leaves where it is
+ended itself."""
 import os
 import random
 import signal
@@ -49,42 +50,75 @@ class Lying(Case):
         self.program(f'cat "{printed}"; cat "{said}" >&2; exit {status}\n')
 
     def test_an_answer_on_another_network_is_none(self):
-        """Each task on the hub, answered as the program answers on the hub with another bank, a debt less, other claims or other cash."""
+        """Each task on the hub, answered as the program answers on the hub with another bank, a debt less, other
+        claims or other cash."""
         net, bank = self.net(), "South"
         banks, debts = (HUB / "banks.csv").read_text(), (HUB / "debts.csv").read_text()
         others = {
-            "a bank": (banks.replace("South", "Sud"), debts.replace("South", "Sud")), "a claim": (banks, debts.replace(",90\n", ",91\n")),
-            "a debt less": (banks, debts[: debts.rstrip("\n").rindex("\n") + 1]), "cash": (banks.replace(",1", ",2"), debts),
+            "a bank": (banks.replace("South", "Sud"), debts.replace("South", "Sud")),
+            "a claim": (banks, debts.replace(",90\n", ",91\n")),
+            "a debt less": (banks, debts[: debts.rstrip("\n").rindex("\n") + 1]),
+            "cash": (banks.replace(",1", ",2"), debts),
             "a bank more": (banks + "More,1,order\n", debts),
         }
         scenarios = self.file("s.toml", Scenarios(SCENARIOS).to_toml())
         tasks = {
-            "check": [], "clear": [], "journal": ["clear", "--show", "both"], "central": [], "defaults": [], "stress": ["stress", "--scenarios", scenarios],
-            "outcomes": ["outcomes", "--scenarios", scenarios], "bounds": [], "costs": ["costs", "--keep", 500], "cost_bounds": ["cost-bounds", "--keep", 500],
-            "breaking": [], "impact": [], "rescues": [], "compress": [], "rescue": ["rescue", "--bank", "South"], "map_stress": ["stress", "--scenarios", scenarios],
+            "check": [],
+            "clear": [],
+            "journal": ["clear", "--show", "both"],
+            "central": [],
+            "defaults": [],
+            "stress": ["stress", "--scenarios", scenarios],
+            "outcomes": ["outcomes", "--scenarios", scenarios],
+            "bounds": [],
+            "costs": ["costs", "--keep", 500],
+            "cost_bounds": ["cost-bounds", "--keep", 500],
+            "breaking": [],
+            "impact": [],
+            "rescues": [],
+            "compress": [],
+            "rescue": ["rescue", "--bank", "South"],
+            "map_stress": ["stress", "--scenarios", scenarios],
             "map_outcomes": ["outcomes", "--scenarios", scenarios],
         }
         seen, right = 0, {}
         for about, (b, d) in others.items():
             words = ["--banks", self.file("b.csv", b), "--debts", self.file("d.csv", d)]
             for name, call in each_task(net, bank):
-                if name not in tasks or about == "a bank" and name == "rescue" or name in ("central", "map_outcomes") and about != "a bank more":
+                if (
+                    name not in tasks
+                    or about == "a bank"
+                    and name == "rescue"
+                    or name in ("central", "map_outcomes")
+                    and about != "a bank more"
+                ):
                     continue
                 task, *more = tasks[name] or [name]
                 printed = clearing(task, *words, *more).stdout
                 same = right.get(name) or right.setdefault(name, clearing(task, *files_of(HUB), *more).stdout)
                 # Where the two say the same of names, claims and counts, nobody can tell them apart by these.
                 self.printing(printed)
-                if about == "cash" and name not in ("check", "impact") or about in ("a claim", "a debt less") and name in (
-                        "defaults", "breaking", "impact", "outcomes", "map_outcomes", "rescues", "compress") or printed == same:
+                if (
+                    about == "cash"
+                    and name not in ("check", "impact")
+                    or about in ("a claim", "a debt less")
+                    and name in ("defaults", "breaking", "impact", "outcomes", "map_outcomes", "rescues", "compress")
+                    or printed == same
+                ):
                     continue
                 with self.assertRaises(cc.TextError, msg=(about, name)):
                     call()
                 seen += 1
         self.assertGreater(seen, 38)
         # Other scenarios, and another bank than was asked for.
-        other = self.file("s.toml", Scenarios([Scenario("as it is"), Scenario("third", 333), Scenario("one loses")]).to_toml())
-        for task, call in (("stress", net.stress), ("outcomes", net.outcomes), ("stress", lambda s: list(cc.map_stress([net], s, jobs=1)))):
+        other = self.file(
+            "s.toml", Scenarios([Scenario("as it is"), Scenario("third", 333), Scenario("one loses")]).to_toml()
+        )
+        for task, call in (
+            ("stress", net.stress),
+            ("outcomes", net.outcomes),
+            ("stress", lambda s: list(cc.map_stress([net], s, jobs=1))),
+        ):
             self.printing(clearing(task, *files_of(HUB), "--scenarios", other).stdout)
             with self.assertRaises(cc.TextError):
                 call(SCENARIOS)
@@ -103,19 +137,44 @@ class Lying(Case):
         number = "9" * 5000
         for status in (0, 4, 7, 99):
             for text, message in [
-                ("falls,9,1,1\n", ""), ("falls,0,1,1\n", ""), (f"falls,{number},1,1\n", ""), ("unlawful,1,x,1\n", ""), ("unfinished,Nobody\n", ""),
-                ("lawful,3\n\n", ""), ("", f"clearing: banks row {number}: rule (5)\n"), ("", "clearing: journal row 1: rule (5)\n"),
-                ("", "clearing: scenarios row 9: shape (17)\n"), ("", "clearing: words row 1: rule (999)\n"), ("", "clearing: cannot read \n"),
-                ("bank,added,short,also_saved,still_short\nHub,1,1," + "9" * 39 + ",0\n\nbank,saves\n", ""), ("\0\n", ""), ("\n", ""), ("scenario,x\n", ""),
-                ("debtor,creditor,class,claim,paid\nA,B,1,2,3,4\n", ""), ("banks,1\ndebts,1\nowed,1\ncash,1\n", ""), ("rescue,x\n", ""),
+                ("falls,9,1,1\n", ""),
+                ("falls,0,1,1\n", ""),
+                (f"falls,{number},1,1\n", ""),
+                ("unlawful,1,x,1\n", ""),
+                ("unfinished,Nobody\n", ""),
+                ("lawful,3\n\n", ""),
+                ("", f"clearing: banks row {number}: rule (5)\n"),
+                ("", "clearing: journal row 1: rule (5)\n"),
+                ("", "clearing: scenarios row 9: shape (17)\n"),
+                ("", "clearing: words row 1: rule (999)\n"),
+                ("", "clearing: cannot read \n"),
+                ("bank,added,short,also_saved,still_short\nHub,1,1," + "9" * 39 + ",0\n\nbank,saves\n", ""),
+                ("\0\n", ""),
+                ("\n", ""),
+                ("scenario,x\n", ""),
+                ("debtor,creditor,class,claim,paid\nA,B,1,2,3,4\n", ""),
+                ("banks,1\ndebts,1\nowed,1\ncash,1\n", ""),
+                ("rescue,x\n", ""),
             ]:
                 self.printing(text, status, message)
                 # A message is read alike by each task, a text as a result of one kind.
                 for name, call in each_task(net, "South"):
-                    is_fault, is_verdict = status in (4, 99), text.startswith(("falls", "unlawful", "unfinished", "lawful"))
-                    if is_fault and name not in ("check", "replay", "stress", "rescue", "generate") or bool(text) == is_fault:
+                    is_fault, is_verdict = status in (4, 99), text.startswith(
+                        ("falls", "unlawful", "unfinished", "lawful")
+                    )
+                    if (
+                        is_fault
+                        and name not in ("check", "replay", "stress", "rescue", "generate")
+                        or bool(text) == is_fault
+                    ):
                         continue
-                    if status == 7 and not is_verdict or is_verdict and name not in ("replay", "clear", "map_stress") or name in ("central", "journal", "map_outcomes"):
+                    if (
+                        status == 7
+                        and not is_verdict
+                        or is_verdict
+                        and name not in ("replay", "clear", "map_stress")
+                        or name in ("central", "journal", "map_outcomes")
+                    ):
                         continue
                     try:
                         call()
@@ -128,14 +187,19 @@ class Lying(Case):
     def test_texts_that_were_altered_are_refused_or_differ(self):
         """The program's own answers with some bytes altered: nothing but a fault of the package, or another result."""
         made, net, seed = random.Random(20261130), self.net(TWELVE), 0
-        whole = {name: clearing(name, *files_of(TWELVE)).stdout for name in ("clear", "defaults", "bounds", "breaking", "rescues", "impact", "compress", "check")}
+        whole = {
+            name: clearing(name, *files_of(TWELVE)).stdout
+            for name in ("clear", "defaults", "bounds", "breaking", "rescues", "impact", "compress", "check")
+        }
         kept = {name: texts.parse(text.decode()) for name, text in whole.items()}
         taken = request.Request(net._banks, net._debts)
         for _ in range(400):
             name = made.choice(sorted(whole))
             data = bytearray(whole[name])
             at = made.randrange(len(data))
-            data[at : at + made.choice((0, 1, 1, 5))] = made.choice((b"", b"9", b",", b"\n", b"\xff", b"-1", b"\0", b"x"))
+            data[at : at + made.choice((0, 1, 1, 5))] = made.choice(
+                (b"", b"9", b",", b"\n", b"\xff", b"-1", b"\0", b"x")
+            )
             if bytes(data) == whole[name]:
                 continue
             seed += 1
@@ -152,17 +216,33 @@ class Fields(Case):
     def test_a_long_field_of_a_journal_is_read(self):
         """Blanks round a field, more than Python's csv takes: with quotes and without."""
         net = Network({"A": 7, "B": 1}, {("A", "B"): 10})
-        for record in (f"1,A,B{' ' * 200_000},1,8\n", f'1,A,"B{" " * 200_000}",1,8\n', f'"1","A","B",{" " * 140_000}1,8\n'):
+        for record in (
+            f"1,A,B{' ' * 200_000},1,8\n",
+            f'1,A,"B{" " * 200_000}",1,8\n',
+            f'"1","A","B",{" " * 140_000}1,8\n',
+        ):
             verdict = net.replay(self.file("j.csv", "stamp,debtor,creditor,class,to\n" + record))
             self.assertEqual((verdict.verdict, verdict.record), ("unlawful", Raise(1, "A", "B", 1, 8)), record[:20])
 
     def test_what_is_compared_is_read_as_the_program_reads_it(self):
         """Files as they come: blanks, quotes, ends of lines, a mark in front, empty records, zeros."""
         for banks, debts in [
-            ("\ufeffname,cash,rule\r\nA , 7,order\r\n\r\n,,\r\n\"B\t\",1,order\r\n", "debtor,creditor,class,claim\r\nA,\"B\",1,007\r\n"),
-            ("name,cash,rule,outside\rA,0000000000000000007,order,0\rB,1,order,5\r", "debtor,creditor,class,claim\r , , ,\rA,B,1,3"),
-            ('"name","cash","rule"\nA,7,order\nB,1,"or""der"\n'.replace('"or""der"', '"order"'), '"debtor",creditor,class,claim\n"A" , B ,1, 3 \n'),
-            ("name,cash,rule\n" + "".join(f"É{n}\u00a0,{n},equal\n" for n in range(300)), "debtor,creditor,class,claim\n"),
+            (
+                '\ufeffname,cash,rule\r\nA , 7,order\r\n\r\n,,\r\n"B\t",1,order\r\n',
+                'debtor,creditor,class,claim\r\nA,"B",1,007\r\n',
+            ),
+            (
+                "name,cash,rule,outside\rA,0000000000000000007,order,0\rB,1,order,5\r",
+                "debtor,creditor,class,claim\r , , ,\rA,B,1,3",
+            ),
+            (
+                '"name","cash","rule"\nA,7,order\nB,1,"or""der"\n'.replace('"or""der"', '"order"'),
+                '"debtor",creditor,class,claim\n"A" , B ,1, 3 \n',
+            ),
+            (
+                "name,cash,rule\n" + "".join(f"É{n}\u00a0,{n},equal\n" for n in range(300)),
+                "debtor,creditor,class,claim\n",
+            ),
         ]:
             net = Network(self.file("b.csv", banks), self.file("d.csv", debts))
             for name, call in each_task(net, net.banks[0].name):
@@ -176,7 +256,9 @@ class Fields(Case):
             data = bytearray(made.choice([(HUB / "banks.csv").read_bytes(), (HUB / "debts.csv").read_bytes()]))
             for _ in range(made.choice((0, 1, 3))):
                 at = made.randrange(len(data) + 1)
-                data[at : at + made.choice((0, 1))] = made.choice((b" ", b"\t", b",", b"\n", b"\r", b'"', b"7", b"x", b""))
+                data[at : at + made.choice((0, 1))] = made.choice(
+                    (b" ", b"\t", b",", b"\n", b"\r", b'"', b"7", b"x", b"")
+                )
             read = []
             for way in (request.plain_columns, lambda *_: None):
                 with unittest.mock.patch.object(request, "plain_columns", way):
@@ -215,8 +297,12 @@ class Ending(Case):
         code = "import sys, clearing_client as cc; cc.Network(*sys.argv[1:]).stress([cc.Scenario('x')])"
         for number in (signal.SIGTERM, signal.SIGKILL, signal.SIGHUP):
             environment = {**os.environ, "TMPDIR": str(place), "PYTHONPATH": str(ROOT / "python/src")}
-            running = subprocess.Popen([sys.executable, "-c", code, HUB / "banks.csv", HUB / "debts.csv"], env=environment, stderr=subprocess.DEVNULL,
-                                       start_new_session=True)
+            running = subprocess.Popen(
+                [sys.executable, "-c", code, HUB / "banks.csv", HUB / "debts.csv"],
+                env=environment,
+                stderr=subprocess.DEVNULL,
+                start_new_session=True,
+            )
             deadline = time.monotonic() + 60
             while not (self.folder / "seen").exists() and time.monotonic() < deadline:
                 time.sleep(0.02)
@@ -228,12 +314,21 @@ class Ending(Case):
             (self.folder / "seen").unlink()
 
     def test_no_file_of_a_run_has_a_name(self):
-        """In the whole package no file is written but by a name that was given, or one that has none. A case is written whole beside
-        the place where it goes, and a workbook is read from a folder of its own."""
-        named = [f"{path.name}: {line.strip()}" for path in (ROOT / "python/src/clearing_client").glob("*.py") for line in path.read_text().splitlines()
-                 if any(word in line for word in ("NamedTemporaryFile", "mkstemp", "mkdtemp", "TemporaryDirectory"))]
-        self.assertEqual(sorted(named), ['case.py: with tempfile.TemporaryDirectory(prefix=".part-", dir=place.parent) as name:',
-                                         'sheets.py: with tempfile.TemporaryDirectory(prefix="clearing-") as name:'])
+        """In the whole package no file is written but by a name that was given, or one that has none. A case is
+        written whole beside the place where it goes, and a workbook is read from a folder of its own."""
+        named = [
+            f"{path.name}: {line.strip()}"
+            for path in (ROOT / "python/src/clearing_client").glob("*.py")
+            for line in path.read_text().splitlines()
+            if any(word in line for word in ("NamedTemporaryFile", "mkstemp", "mkdtemp", "TemporaryDirectory"))
+        ]
+        self.assertEqual(
+            sorted(named),
+            [
+                'case.py: with tempfile.TemporaryDirectory(prefix=".part-", dir=place.parent) as name:',
+                'sheets.py: with tempfile.TemporaryDirectory(prefix="clearing-") as name:',
+            ],
+        )
 
     def test_output_without_an_end_is_not_held(self):
         self.program("exec cat /dev/zero\n")

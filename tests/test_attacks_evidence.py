@@ -1,5 +1,6 @@
-"""Folders of evidence that somebody made to have more read, run, printed or taken than the check of a folder may: commands that name files
-elsewhere, words that no program takes, names that turn a terminal's letters, and files that are long and have nothing in them."""
+"""Folders of evidence that somebody made to have more read, run, printed or taken than the check of a folder may:
+commands that name files elsewhere, words that no program takes, names that turn a terminal's letters, and files that
+are long and have nothing in them."""
 import ast
 import contextlib
 import io
@@ -42,7 +43,8 @@ class Commands(EvidenceCase):
         return done.returncode, (done.stdout + done.stderr).decode()
 
     def test_no_sheet_of_another_place_is_read(self):
-        """The same command with another sheet of the same name, which stands elsewhere: what is checked is the folder's."""
+        """The same command with another sheet of the same name, which stands elsewhere: what is checked is the
+        folder's."""
         folder = self.made()
         whole = (folder / "source/command.tsv").read_text()
         elsewhere = self.folder / "elsewhere/source"
@@ -50,7 +52,17 @@ class Commands(EvidenceCase):
         # What the two files were made of, while the folder's sheet says something else.
         (elsewhere / "1-m.csv").write_text(SHEET)
         (folder / "source/1-m.csv").write_text(SHEET.replace("10", "70"))
-        kinds = [f"{elsewhere.parent}/", "../elsewhere/", f"--table={elsewhere.parent}/", f"x=/{elsewhere.parent}/", "~/", "a/../", "./", "--table=a/b/", "."]
+        kinds = [
+            f"{elsewhere.parent}/",
+            "../elsewhere/",
+            f"--table={elsewhere.parent}/",
+            f"x=/{elsewhere.parent}/",
+            "~/",
+            "a/../",
+            "./",
+            "--table=a/b/",
+            ".",
+        ]
         for before in kinds:
             status, told = self.checked(folder, whole.replace("file\t\t1-m.csv", f"file\t{before}\t1-m.csv"))
             self.assertEqual((status, "is not a command that is run" in told), (3, True), (before, told))
@@ -62,7 +74,23 @@ class Commands(EvidenceCase):
     def test_the_form_of_an_option_or_a_column_may_stand_before_a_sheet(self):
         for before in ("", "currency=", "--rate=", "--rate=currency=", "a b=", "--known=", "Währung="):
             self.assertEqual(source.word_of(f"file\t{before}\t1-m.csv"), source.Word(before, "1-m.csv"), before)
-        for before in ("/", "a", "a/b=", "/=", "~=", "--rate", "=", "==", "a=b=", "--rate=/=", "../=", "--help=", "--out=", "-h=", "--samples="):
+        for before in (
+            "/",
+            "a",
+            "a/b=",
+            "/=",
+            "~=",
+            "--rate",
+            "=",
+            "==",
+            "a=b=",
+            "--rate=/=",
+            "../=",
+            "--help=",
+            "--out=",
+            "-h=",
+            "--samples=",
+        ):
             with self.assertRaises(ValueError, msg=before):
                 source.word_of(f"file\t{before}\t1-m.csv")
 
@@ -70,11 +98,19 @@ class Commands(EvidenceCase):
         folder = self.made()
         whole = (folder / "source/command.tsv").read_text()
         for about, text in {
-            "a character NUL": whole + "word\ta\0b\n", "NUL in the name of a sheet": whole.replace("1-m.csv", "1-m\0.csv"),
-            "200,000 words": whole + "word\tx\n" * 200_000, "help": whole + "word\t--help\n", "help, shorter": whole + "word\t-h\n",
-            "help with more": whole + "word\t-hx\n", "help that ends": whole.replace("file\t\t", "word\t--help\nfile\t\t"),
-            "a word of a megabyte": whole + "word\t" + "x" * 1_000_000 + "\n", "no tool": "", "no UTF-8": whole.encode() + b"word\t\xff\n",
-            "an escape": whole + "word\t\x1b[2J\n", "no words": "from_list.py\n", "an option that is none": whole + "word\t--no-such\n",
+            "a character NUL": whole + "word\ta\0b\n",
+            "NUL in the name of a sheet": whole.replace("1-m.csv", "1-m\0.csv"),
+            "200,000 words": whole + "word\tx\n" * 200_000,
+            "help": whole + "word\t--help\n",
+            "help, shorter": whole + "word\t-h\n",
+            "help with more": whole + "word\t-hx\n",
+            "help that ends": whole.replace("file\t\t", "word\t--help\nfile\t\t"),
+            "a word of a megabyte": whole + "word\t" + "x" * 1_000_000 + "\n",
+            "no tool": "",
+            "no UTF-8": whole.encode() + b"word\t\xff\n",
+            "an escape": whole + "word\t\x1b[2J\n",
+            "no words": "from_list.py\n",
+            "an option that is none": whole + "word\t--no-such\n",
         }.items():
             status, told = self.checked(folder, text)
             self.assertEqual(status, 3, (about, told[-600:]))
@@ -86,7 +122,12 @@ class Commands(EvidenceCase):
             command.write(b"word\tx\n" * 3_000_000)
         self.sums_anew(folder)
         limit = lambda: resource.setrlimit(resource.RLIMIT_AS, (150 << 20, 150 << 20))
-        done = subprocess.run([str(ROOT / "bin/clearing-evidence"), "check", str(folder)], preexec_fn=limit, capture_output=True, encoding="utf-8")
+        done = subprocess.run(
+            [str(ROOT / "bin/clearing-evidence"), "check", str(folder)],
+            preexec_fn=limit,
+            capture_output=True,
+            encoding="utf-8",
+        )
         self.assertEqual(done.returncode, 3, done.stderr)
         self.assertIn("source/command.tsv: it is longer than 100,000 bytes", done.stdout)
 
@@ -95,8 +136,14 @@ class Confined(EvidenceCase):
     """The tool that makes the files of somebody else's sheets."""
 
     def confined(self, *words, **more):
-        return subprocess.run([sys.executable, "-IB", str(CONFINED), *map(str, words)], cwd=self.folder, stdin=subprocess.DEVNULL, capture_output=True,
-                              encoding="utf-8", **more)
+        return subprocess.run(
+            [sys.executable, "-IB", str(CONFINED), *map(str, words)],
+            cwd=self.folder,
+            stdin=subprocess.DEVNULL,
+            capture_output=True,
+            encoding="utf-8",
+            **more,
+        )
 
     def test_it_reads_and_writes_in_its_folder_alone(self):
         """Whatever words lead there: by name, by a link, by a column's file, to a device."""
@@ -110,12 +157,24 @@ class Confined(EvidenceCase):
         columns = ["--debtor", "borrower", "--creditor", "lender", "--table", "table.csv"]
         files = ["--banks", "b.csv", "--debts", "d.csv", "--summary", "s.csv"]
         self.assertEqual(self.confined("list", "m.csv", *columns, *files).returncode, 0)
-        for sheet in (secret, "link.csv", "../secret.csv", "/proc/self/cwd/../secret.csv", "/dev/stdin", "/proc/self/environ"):
+        for sheet in (
+            secret,
+            "link.csv",
+            "../secret.csv",
+            "/proc/self/cwd/../secret.csv",
+            "/dev/stdin",
+            "/proc/self/environ",
+        ):
             done = self.confined("list", sheet, *columns, *files)
             self.assertGreater(done.returncode, 0, sheet)
             self.assertNotIn("Traceback", done.stderr)
-        for words in (["--banks", outer / "b.csv", "--debts", "d.csv"], ["--banks", "b.csv", "--debts", "../d.csv"],
-                      [*files[:4], "--summary", outer / "s.csv"], [*files, "--label", outer / "l.csv"], [*files[:4], "--summary", "../new/s.csv"]):
+        for words in (
+            ["--banks", outer / "b.csv", "--debts", "d.csv"],
+            ["--banks", "b.csv", "--debts", "../d.csv"],
+            [*files[:4], "--summary", outer / "s.csv"],
+            [*files, "--label", outer / "l.csv"],
+            [*files[:4], "--summary", "../new/s.csv"],
+        ):
             done = self.confined("list", "m.csv", *columns, *words)
             self.assertGreater(done.returncode, 0, words)
             self.assertNotIn("Traceback", done.stderr)
@@ -123,25 +182,54 @@ class Confined(EvidenceCase):
         self.folder = outer
 
     def test_it_starts_nothing_and_calls_nobody(self):
-        code = ("import sys; sys.path.insert(0, {!r}); from clearing_tools.evidence import confined; import os, socket, subprocess, shutil\n"
-                "sys.addaudithook(confined.guard(os.getcwd(), ()))\n"
-                "try:\n    {}\nexcept PermissionError: print('refused')\n")
-        for deed in ("subprocess.run(['/bin/true'])", "os.system('true')", "socket.socket().connect(('127.0.0.1', 9))", "os.execv('/bin/true', ['true'])",
-                     "os.rename('/etc/hostname', 'x')", "os.symlink('/etc', 'x')", "os.remove('/none/x')", "os.mkdir('/none')", "os.kill(1, 0)",
-                     "open('/etc/hostname')", "open('/none/x', 'w')", "shutil.rmtree('/none')", "os.posix_spawn('/bin/true', ['true'], {})", "os.chdir('/')"):
+        code = (
+            "import sys; sys.path.insert(0, {!r}); from clearing_tools.evidence import confined; import os, socket,"
+            " subprocess, shutil\nsys.addaudithook(confined.guard(os.getcwd(), ()))\ntry:\n    {}\nexcept"
+            " PermissionError: print('refused')\n"
+        )
+        for deed in (
+            "subprocess.run(['/bin/true'])",
+            "os.system('true')",
+            "socket.socket().connect(('127.0.0.1', 9))",
+            "os.execv('/bin/true', ['true'])",
+            "os.rename('/etc/hostname', 'x')",
+            "os.symlink('/etc', 'x')",
+            "os.remove('/none/x')",
+            "os.mkdir('/none')",
+            "os.kill(1, 0)",
+            "open('/etc/hostname')",
+            "open('/none/x', 'w')",
+            "shutil.rmtree('/none')",
+            "os.posix_spawn('/bin/true', ['true'], {})",
+            "os.chdir('/')",
+        ):
             run = [sys.executable, "-c", code.format(str(ROOT / "python/src"), deed)]
             done = subprocess.run(run, cwd=self.folder, stdin=subprocess.DEVNULL, capture_output=True, encoding="utf-8")
             told = done.stdout.strip()
-            self.assertTrue(told == "refused" or "FileNotFoundError" in done.stderr and "rmtree" in deed, (deed, done.stderr))
+            self.assertTrue(
+                told == "refused" or "FileNotFoundError" in done.stderr and "rmtree" in deed, (deed, done.stderr)
+            )
 
     def test_it_has_limits_of_memory_time_and_files(self):
-        code = "import sys; sys.path.insert(0, {!r}); from clearing_tools.evidence import confined; confined.limit(); import resource\n{}"
-        for deed, how in (("bytearray(5 << 30)", "MemoryError"), ("print(resource.getrlimit(resource.RLIMIT_CPU)[0])", "600"),
-                          ("print(resource.getrlimit(resource.RLIMIT_FSIZE)[0])", "400000000")):
-            done = subprocess.run([sys.executable, "-c", code.format(str(ROOT / "python/src"), deed)], capture_output=True, encoding="utf-8")
+        code = (
+            "import sys; sys.path.insert(0, {!r}); from clearing_tools.evidence import confined; confined.limit();"
+            " import resource\n{}"
+        )
+        for deed, how in (
+            ("bytearray(5 << 30)", "MemoryError"),
+            ("print(resource.getrlimit(resource.RLIMIT_CPU)[0])", "600"),
+            ("print(resource.getrlimit(resource.RLIMIT_FSIZE)[0])", "400000000"),
+        ):
+            done = subprocess.run(
+                [sys.executable, "-c", code.format(str(ROOT / "python/src"), deed)],
+                capture_output=True,
+                encoding="utf-8",
+            )
             self.assertIn(how, done.stdout + done.stderr)
         # A tool that goes on is ended.
-        with unittest.mock.patch.object(source, "MOST_SECONDS", 0.01), self.assertRaisesRegex(ToolError, "takes longer than"):
+        with unittest.mock.patch.object(source, "MOST_SECONDS", 0.01), self.assertRaisesRegex(
+            ToolError, "takes longer than"
+        ):
             source.run_tool("from_list.py", ["m.csv"], self.folder)
 
 
@@ -163,9 +251,16 @@ class Printed(EvidenceCase):
     def test_all_that_is_told_goes_through_one_call(self):
         """In the whole of the check nothing is printed but by `tell`, which shows each sign."""
         tree = ast.parse(pathlib.Path(checking.__file__).read_text(encoding="utf-8"))
-        writers = [node.name for node in ast.walk(tree) if isinstance(node, ast.FunctionDef)
-                   for inner in ast.walk(node) if isinstance(inner, ast.Attribute) and inner.attr == "stdout"
-                   or isinstance(inner, ast.Name) and inner.id == "print"]
+        writers = [
+            node.name
+            for node in ast.walk(tree)
+            if isinstance(node, ast.FunctionDef)
+            for inner in ast.walk(node)
+            if isinstance(inner, ast.Attribute)
+            and inner.attr == "stdout"
+            or isinstance(inner, ast.Name)
+            and inner.id == "print"
+        ]
         self.assertEqual(set(writers), {"tell"})
 
 
@@ -188,7 +283,9 @@ class Sizes(EvidenceCase):
 
     def test_a_journal_that_belongs_is_no_longer_than_its_network_allows(self):
         folder = self.hub(self.ONE)
-        network = audit.read_network((folder / "inputs/banks.csv").read_bytes(), (folder / "inputs/debts.csv").read_bytes())
+        network = audit.read_network(
+            (folder / "inputs/banks.csv").read_bytes(), (folder / "inputs/debts.csv").read_bytes()
+        )
         most = parts.most_of_journal(network)
         # Each raise pays a unit at least: no journal of the program is as long, by whatever workers.
         for journal in folder.glob("*/journal.csv"):
@@ -212,9 +309,17 @@ class Sizes(EvidenceCase):
         # A folder of temporary files that has no room at all.
         where = self.folder / "none"
         where.mkdir()
-        code = ("import resource, sys; resource.setrlimit(resource.RLIMIT_FSIZE, (300, 300)); import signal; signal.signal(signal.SIGXFSZ, signal.SIG_IGN)\n"
-                f"sys.argv = ['evidence.sh', 'check', {str(folder)!r}]; from clearing_tools.evidence.evidence import main; main()")
-        done = subprocess.run([sys.executable, "-c", code], capture_output=True, encoding="utf-8", env={**os.environ, "TMPDIR": str(where), "PYTHONPATH": str(PACKAGES)})
+        code = (
+            "import resource, sys; resource.setrlimit(resource.RLIMIT_FSIZE, (300, 300)); import signal;"
+            f" signal.signal(signal.SIGXFSZ, signal.SIG_IGN)\nsys.argv = ['evidence.sh', 'check', {str(folder)!r}];"
+            " from clearing_tools.evidence.evidence import main; main()"
+        )
+        done = subprocess.run(
+            [sys.executable, "-c", code],
+            capture_output=True,
+            encoding="utf-8",
+            env={**os.environ, "TMPDIR": str(where), "PYTHONPATH": str(PACKAGES)},
+        )
         self.assertEqual(done.returncode, 1, done.stderr)
         self.assertIn("no copy can be made in the folder of temporary files", done.stderr)
         self.assertNotIn("cannot be read", done.stdout + done.stderr)
@@ -230,10 +335,14 @@ class Sizes(EvidenceCase):
             inner.append(resource.getrlimit(resource.RLIMIT_AS)[0])
             return real(limits, process)
 
-        with unittest.mock.patch.object(checking.runner.Limits, "put_on", put_on), contextlib.redirect_stdout(io.TextIOWrapper(io.BytesIO())):
+        with unittest.mock.patch.object(checking.runner.Limits, "put_on", put_on), contextlib.redirect_stdout(
+            io.TextIOWrapper(io.BytesIO())
+        ):
             asked = unittest.mock.Mock(folder=str(folder))
             self.assertEqual(checking.check(asked), 0)
-        self.assertEqual({(limits.seconds, limits.memory) for _, limits in seen}, {(3600, 8 << 30), (3600, resource.RLIM_INFINITY)})
+        self.assertEqual(
+            {(limits.seconds, limits.memory) for _, limits in seen}, {(3600, 8 << 30), (3600, resource.RLIM_INFINITY)}
+        )
         self.assertEqual(len(seen), 4 + 4 + 14)
         self.assertEqual(set(inner[:4]), {4 << 30})
         self.assertNotIn(4 << 30, inner[4:])

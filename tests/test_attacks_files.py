@@ -1,4 +1,5 @@
-"""What other users may plant where a tool writes, files below /dev, and who may read what a tool made of files that are not for all."""
+"""What other users may plant where a tool writes, files below /dev, and who may read what a tool made of files that
+are not for all."""
 import contextlib
 import ctypes
 import os
@@ -65,7 +66,10 @@ class Planted(Case):
             for name in (plain, folder / ".bashrc", chain, folder / "new"):
                 with self.assertRaisesRegex(ToolError, "a link of another user"):
                     write(name)
-            self.assertEqual((victim.read_text(), inner.read_text(), sorted(os.listdir(self.folder / "home"))), ("kept\n", "kept\n", [".bashrc"]))
+            self.assertEqual(
+                (victim.read_text(), inner.read_text(), sorted(os.listdir(self.folder / "home"))),
+                ("kept\n", "kept\n", [".bashrc"]),
+            )
             for path in (plain, folder, chain):
                 path.unlink()
         unittest.mock.patch.stopall()
@@ -116,7 +120,8 @@ class Planted(Case):
 
     @unittest.skipUnless(os.geteuid() == 0, "only root gives links to others")
     def test_a_folder_that_is_exchanged_sends_no_write_elsewhere(self):
-        """Thousands of writes while somebody exchanges the folder for a link of his; and once just between the look and the write."""
+        """Thousands of writes while somebody exchanges the folder for a link of his; and once just between the look
+        and the write."""
         victim, way = self.folder / "victim", self.folder / "way"
         victim.mkdir()
         way.mkdir()
@@ -156,14 +161,21 @@ class Planted(Case):
         self.assertGreater(counts[False], 0)
 
     def test_a_folder_of_evidence_that_is_exchanged_sends_no_write_elsewhere(self):
-        """The program of the evidence has the new folder be a link to a victim's, as whoever has the folder above can."""
+        """The program of the evidence has the new folder be a link to a victim's, as whoever has the folder above
+        can."""
         victim, place = self.folder / "victim", self.folder / "place"
         victim.mkdir()
         place.mkdir()
         # When all runs have begun.
-        self.program(f'[ "$1" = defaults ] && sleep 1 && for part in "{place}"/.part-*; do [ -h "$part" ] || {{ mv "$part" "{place}/moved-$$"; ln -s "{victim}" "$part"; }}; done\n'
-                     f'exec {PROGRAM} "$@"\n')
-        done = subprocess.run([str(ROOT / "bin/clearing-evidence"), "make", str(place / "evidence"), *map(str, FILES)], capture_output=True, encoding="utf-8")
+        self.program(
+            f'[ "$1" = defaults ] && sleep 1 && for part in "{place}"/.part-*; do [ -h "$part" ] || {{ mv "$part"'
+            f' "{place}/moved-$$"; ln -s "{victim}" "$part"; }}; done\nexec {PROGRAM} "$@"\n'
+        )
+        done = subprocess.run(
+            [str(ROOT / "bin/clearing-evidence"), "make", str(place / "evidence"), *map(str, FILES)],
+            capture_output=True,
+            encoding="utf-8",
+        )
         self.assertEqual(os.listdir(victim), [], done.stderr)
 
     def test_a_way_goes_where_its_name_leads(self):
@@ -175,10 +187,28 @@ class Planted(Case):
         before = os.getcwd()
         self.addCleanup(os.chdir, before)
         os.chdir(self.folder / "a/b")
-        for name in ("x", "./x", "../x", "../../x", "c/../x", "c/x", "../up/x", "../deep/c/x", "again/x", "again/../x", f"{self.folder}/a/deep/../x", "c//x", "c/./x",
-                     "../../../../../../../../../../tmp/../" + str(self.folder).lstrip("/") + "/x"):
+        for name in (
+            "x",
+            "./x",
+            "../x",
+            "../../x",
+            "c/../x",
+            "c/x",
+            "../up/x",
+            "../deep/c/x",
+            "again/x",
+            "again/../x",
+            f"{self.folder}/a/deep/../x",
+            "c//x",
+            "c/./x",
+            "../../../../../../../../../../tmp/../" + str(self.folder).lstrip("/") + "/x",
+        ):
             with contextlib.closing(files.Way(name)) as way:
-                self.assertEqual(os.path.join(os.readlink(f"/proc/self/fd/{way.folder}"), way.last), os.path.join(os.path.realpath(os.path.dirname(name)), "x"), name)
+                self.assertEqual(
+                    os.path.join(os.readlink(f"/proc/self/fd/{way.folder}"), way.last),
+                    os.path.join(os.path.realpath(os.path.dirname(name)), "x"),
+                    name,
+                )
             files.write_all({name: name})
             self.assertEqual(pathlib.Path(name).read_text(), name)
             os.unlink(name)
@@ -195,30 +225,43 @@ class Planted(Case):
             place.mkdir(exist_ok=True)
             place.chmod(mode)
             for task in (["run", jobs, place, 1], ["one", jobs, place, 1]):
-                done = subprocess.run([str(ROOT / "bin/clearing-many"), *map(str, task)], capture_output=True, encoding="utf-8")
+                done = subprocess.run(
+                    [str(ROOT / "bin/clearing-many"), *map(str, task)], capture_output=True, encoding="utf-8"
+                )
                 self.assertEqual((done.returncode, sorted(os.listdir(place))), (2, []), (oct(mode), done.stderr))
                 self.assertIn("others can write", done.stderr)
         if os.geteuid() == 0:
             place.chmod(0o755)
             os.chown(place, ANOTHER, ANOTHER)
-            done = subprocess.run([str(ROOT / "bin/clearing-many"), "run", str(jobs), str(place), "1"], capture_output=True, encoding="utf-8")
+            done = subprocess.run(
+                [str(ROOT / "bin/clearing-many"), "run", str(jobs), str(place), "1"],
+                capture_output=True,
+                encoding="utf-8",
+            )
             self.assertEqual((done.returncode, sorted(os.listdir(place))), (2, []), done.stderr)
             os.chown(place, 0, 0)
         place.chmod(0o755)
-        done = subprocess.run([str(ROOT / "bin/clearing-many"), "run", str(jobs), str(place), "1"], capture_output=True, encoding="utf-8")
+        done = subprocess.run(
+            [str(ROOT / "bin/clearing-many"), "run", str(jobs), str(place), "1"], capture_output=True, encoding="utf-8"
+        )
         self.assertEqual(done.returncode, 0, done.stderr)
 
     def test_many_follows_no_link_in_its_folder(self):
         victim = self.file("victim", "kept\n")
         jobs = self.file("jobs.tsv", "\t".join(["a", "check", *map(str, FILES)]) + "\n")
         # The program plants what comes next, where its own output goes.
-        plant = self.program(f'cd "{self.folder}/results"; for part in a.part+*; do for e in .job .failed; do ln -s "{victim}" "$part$e"; done; done; '
-                             f'ln -s "{victim}" a.out; exit ${{STATUS:-0}}\n')
+        plant = self.program(
+            f'cd "{self.folder}/results"; for part in a.part+*; do for e in .job .failed; do ln -s "{victim}"'
+            f' "$part$e"; done; done; ln -s "{victim}" a.out; exit ${{STATUS:-0}}\n'
+        )
         self.assertIsNone(plant)
         for status in ("0", "6"):
             shutil.rmtree(self.folder / "results", ignore_errors=True)
-            subprocess.run([str(ROOT / "bin/clearing-many"), "run", str(jobs), str(self.folder / "results"), "1"], capture_output=True,
-                           env={**os.environ, "STATUS": status})
+            subprocess.run(
+                [str(ROOT / "bin/clearing-many"), "run", str(jobs), str(self.folder / "results"), "1"],
+                capture_output=True,
+                env={**os.environ, "STATUS": status},
+            )
             self.assertEqual(victim.read_text(), "kept\n", status)
 
 
@@ -246,12 +289,19 @@ class BelowDev(unittest.TestCase):
             files.write_all({banks: "x"}, [banks])
         net = ["--banks", banks, "--debts", debts]
         for name, words in [
-            ("clearing-to-matrix", [*net, "--out", banks]), ("clearing-breaking", [*net, "--output", banks]), ("clearing-impact", [*net, "--matrix", debts]),
-            ("clearing-shock", ["--banks", banks, "--scenarios", scenarios, "--scenario", 1, "--output", scenarios]), ("clearing-report", [*net, "--out", banks]),
+            ("clearing-to-matrix", [*net, "--out", banks]),
+            ("clearing-breaking", [*net, "--output", banks]),
+            ("clearing-impact", [*net, "--matrix", debts]),
+            ("clearing-shock", ["--banks", banks, "--scenarios", scenarios, "--scenario", 1, "--output", scenarios]),
+            ("clearing-report", [*net, "--out", banks]),
         ]:
             done = tool(name, *words)
             self.assertNotEqual(done.returncode, 0, name)
-            self.assertEqual([path.read_bytes() for path in (banks, debts)], [(CHAIN / path.name).read_bytes() for path in (banks, debts)], name)
+            self.assertEqual(
+                [path.read_bytes() for path in (banks, debts)],
+                [(CHAIN / path.name).read_bytes() for path in (banks, debts)],
+                name,
+            )
 
     def test_a_block_device_is_no_output(self):
         mode = stat.S_IFBLK | 0o600
@@ -264,7 +314,9 @@ class BelowDev(unittest.TestCase):
 
 class WhoMayRead(Case):
     def private(self):
-        banks, debts = self.file("banks.csv", (HUB / "banks.csv").read_bytes()), self.file("debts.csv", (HUB / "debts.csv").read_bytes())
+        banks, debts = self.file("banks.csv", (HUB / "banks.csv").read_bytes()), self.file(
+            "debts.csv", (HUB / "debts.csv").read_bytes()
+        )
         banks.chmod(0o600)
         debts.chmod(0o644)
         return ["--banks", banks, "--debts", debts]
@@ -276,25 +328,54 @@ class WhoMayRead(Case):
     def test_what_is_made_of_files_that_are_not_for_all_is_not_for_all(self):
         net = self.private()
         for name, words, made in [
-            ("clearing-breaking", ["--output"], "breaking.csv"), ("clearing-impact", ["--matrix"], "impact.csv"), ("clearing-rescues", ["--output"], "rescues.csv"),
-            ("clearing-to-matrix", ["--out"], "matrix.csv"), ("clearing-report", ["--out"], "report.html"),
+            ("clearing-breaking", ["--output"], "breaking.csv"),
+            ("clearing-impact", ["--matrix"], "impact.csv"),
+            ("clearing-rescues", ["--output"], "rescues.csv"),
+            ("clearing-to-matrix", ["--out"], "matrix.csv"),
+            ("clearing-report", ["--out"], "report.html"),
         ]:
             done = tool(name, *net, *words, self.folder / made)
             self.assertEqual(done.returncode, 0, (name, done.stderr))
             self.assertEqual(oct(permitted(self.folder / made)), "0o600", name)
         scenarios = self.file("s.toml", '[[scenario]]\nname = "a"\n')
-        done = tool("clearing-shock", *net[:2], "--scenarios", scenarios, "--scenario", 1, "--output", self.folder / "left.csv")
+        done = tool(
+            "clearing-shock", *net[:2], "--scenarios", scenarios, "--scenario", 1, "--output", self.folder / "left.csv"
+        )
         self.assertEqual((done.returncode, oct(permitted(self.folder / "left.csv"))), (0, "0o600"), done.stderr)
-        made = subprocess.run([str(ROOT / "bin/clearing-evidence"), "make", self.folder / "evidence", *map(str, net)], capture_output=True)
+        made = subprocess.run(
+            [str(ROOT / "bin/clearing-evidence"), "make", self.folder / "evidence", *map(str, net)], capture_output=True
+        )
         self.assertEqual(made.returncode, 0, made.stderr)
         self.assertEqual(oct(permitted(self.folder / "evidence")), "0o700")
         for path in (self.folder / "evidence").rglob("*"):
             self.assertEqual(permitted(path) & 0o077, 0, path)
-        jobs = self.file("jobs.tsv", "\t".join(["a", "check", *map(str, net)]) + "\n" + "\t".join(["b", "check", f"--banks={net[1]}", *map(str, net[2:])]) + "\n"
-                         + "\t".join(["c", "check", *map(str, FILES)]) + "\n" + "\t".join(["d", "check", *map(str, net), "--bad"]) + "\n")
-        subprocess.run([str(ROOT / "bin/clearing-many"), "run", str(jobs), str(self.folder / "many"), "1"], capture_output=True)
+        jobs = self.file(
+            "jobs.tsv",
+            "\t".join(["a", "check", *map(str, net)])
+            + "\n"
+            + "\t".join(["b", "check", f"--banks={net[1]}", *map(str, net[2:])])
+            + "\n"
+            + "\t".join(["c", "check", *map(str, FILES)])
+            + "\n"
+            + "\t".join(["d", "check", *map(str, net), "--bad"])
+            + "\n",
+        )
+        subprocess.run(
+            [str(ROOT / "bin/clearing-many"), "run", str(jobs), str(self.folder / "many"), "1"], capture_output=True
+        )
         modes = {path.name: oct(permitted(path)) for path in (self.folder / "many").iterdir()}
-        self.assertEqual(modes, {"a.out": "0o600", "a.job": "0o600", "b.out": "0o600", "b.job": "0o600", "c.out": "0o644", "c.job": "0o644", "d.failed": "0o600"})
+        self.assertEqual(
+            modes,
+            {
+                "a.out": "0o600",
+                "a.job": "0o600",
+                "b.out": "0o600",
+                "b.job": "0o600",
+                "c.out": "0o644",
+                "c.job": "0o644",
+                "d.failed": "0o600",
+            },
+        )
 
     def test_a_kept_mode_has_no_setuid(self):
         for write in writers():
@@ -309,10 +390,15 @@ class WhoMayRead(Case):
         program = self.file("slow", '#!/bin/sh\ncase $1 in clear) exec sleep 60;; esac\nexec "$REAL" "$@"\n')
         program.chmod(0o755)
         environment = {**os.environ, "CLEARING": str(program), "REAL": PROGRAM, "PYTHONDONTWRITEBYTECODE": "1"}
-        running = subprocess.Popen([str(ROOT / "bin/clearing-evidence"), "make", str(place / "evidence"), *map(str, FILES)], env=environment,
-                                   stdout=subprocess.PIPE, stderr=subprocess.PIPE, start_new_session=True,
-                                   # A caller that ignores the signal, as nohup does, would hand that down.
-                                   preexec_fn=lambda: signal.signal(signal.SIGHUP, signal.SIG_DFL))
+        running = subprocess.Popen(
+            [str(ROOT / "bin/clearing-evidence"), "make", str(place / "evidence"), *map(str, FILES)],
+            env=environment,
+            stdout=subprocess.PIPE,
+            stderr=subprocess.PIPE,
+            start_new_session=True,
+            # A caller that ignores the signal, as nohup does, would hand that down.
+            preexec_fn=lambda: signal.signal(signal.SIGHUP, signal.SIG_DFL),
+        )
         self.addCleanup(running.stdout.close)
         self.addCleanup(running.stderr.close)
         deadline = time.monotonic() + 30

@@ -1,11 +1,14 @@
-"""The table of what is guarded, docs/GUARDS.md: each test that it names is there, and no module of attacks is left out."""
+"""The table of what is guarded, docs/GUARDS.md: each test that it names is there, and no module of attacks is left
+out."""
 import ast
 import re
 import unittest
 
 from common import ROOT
 
-ROW = re.compile(r"^\| (?P<threat>[^|]+) \| (?P<guard>[^|]+) \| `(?P<module>\w+)\.(?P<case>\w+)\.(?P<test>\w+)` \|$", re.MULTILINE)
+ROW = re.compile(
+    r"^\| (?P<threat>[^|]+) \| (?P<guard>[^|]+) \| `(?P<module>\w+)\.(?P<case>\w+)\.(?P<test>\w+)` \|$", re.MULTILINE
+)
 
 
 class Guards(unittest.TestCase):
@@ -13,7 +16,11 @@ class Guards(unittest.TestCase):
         text = (ROOT / "docs/GUARDS.md").read_text(encoding="utf-8")
         rows = list(ROW.finditer(text))
         heads = len(re.findall(r"^\|---", text, re.MULTILINE))
-        self.assertEqual(len(rows), len(re.findall(r"^\|", text, re.MULTILINE)) - 2 * heads, "a row has not a threat, a guard and a test")
+        self.assertEqual(
+            len(rows),
+            len(re.findall(r"^\|", text, re.MULTILINE)) - 2 * heads,
+            "a row has not a threat, a guard and a test",
+        )
         return rows
 
     def test_each_test_that_it_names_is_there(self):
@@ -21,7 +28,11 @@ class Guards(unittest.TestCase):
         self.assertGreater(len(rows), 35)
         for row in rows:
             tree = ast.parse((ROOT / f"tests/{row['module']}.py").read_text(encoding="utf-8"))
-            cases = {node.name: {inner.name for inner in node.body if isinstance(inner, ast.FunctionDef)} for node in tree.body if isinstance(node, ast.ClassDef)}
+            cases = {
+                node.name: {inner.name for inner in node.body if isinstance(inner, ast.FunctionDef)}
+                for node in tree.body
+                if isinstance(node, ast.ClassDef)
+            }
             self.assertIn(row["test"], cases.get(row["case"], ()), row[0])
 
     def test_no_module_of_attacks_is_left_out(self):

@@ -1,5 +1,5 @@
-"""Inputs that would take a tool gigabytes: points and brackets of TOML, long fields, files without an end. Each tool has some hundred megabytes
-and some seconds for them, and ends with a message."""
+"""Inputs that would take a tool gigabytes: points and brackets of TOML, long fields, files without an end. Each tool
+has some hundred megabytes and some seconds for them, and ends with a message."""
 import concurrent.futures
 import os
 import pathlib
@@ -19,18 +19,36 @@ FILES = ["--banks", HUB / "banks.csv", "--debts", HUB / "debts.csv"]
 def limited(megabytes, *words, python=None, seconds=120):
     """A run of a tool that has so much memory."""
     limit = lambda: resource.setrlimit(resource.RLIMIT_AS, (megabytes << 20, megabytes << 20))
-    return subprocess.run([*run_of(words[0], python), *map(str, words[1:])], preexec_fn=limit, timeout=seconds, stdin=subprocess.DEVNULL,
-                          capture_output=True, encoding="utf-8", errors="replace", env={**os.environ, "CLEARING": os.path.realpath(PROGRAM)})
+    return subprocess.run(
+        [*run_of(words[0], python), *map(str, words[1:])],
+        preexec_fn=limit,
+        timeout=seconds,
+        stdin=subprocess.DEVNULL,
+        capture_output=True,
+        encoding="utf-8",
+        errors="replace",
+        env={**os.environ, "CLEARING": os.path.realpath(PROGRAM)},
+    )
 
 
 # Documents, and the fault that the program names; none where the program takes longer to say it.
 DEEP = {
-    "points": "a" + ".a" * 20_000 + " = 1\n", "some points": "a" + ".a" * 2_000 + " = 1\n", "points of a table": "[a" + ".a" * 20_000 + "]\n",
-    "brackets": "a = " + "[" * 20_000 + "]" * 20_000 + "\n", "braces": "a = " + "{a=" * 20_000 + "1" + "}" * 20_000 + "\n",
-    "brackets alone": "[" * 100_000, "one too many": "a" + ".a" * 80 + " = 1\n", "a bracket too many": "a = " + "[" * 81 + "]" * 81 + "\n",
-    "as deep as may be": "a" + ".a" * 79 + " = " + "[" * 79 + "]" * 79 + "\n", "nested": "a = " + "".join("{" + "a." * 79 + "a = " for _ in range(79)) + "1" + "}" * 79,
-    "many tables": "".join(f"[a{n}" + ".a" * 78 + "]\n" for n in range(20_000)), "many short ones": "".join(f"[a{n}]\n" for n in range(300_000)),
-    "a number of digits": "a = " + "9" * 100_000 + "\n", "points in a text": '[[scenario]]\nname = "' + "a." * 30 + '"\n[[ "scenario" . loss ]]\nbank = \'Nobody\'\namount = 1\n',
+    "points": "a" + ".a" * 20_000 + " = 1\n",
+    "some points": "a" + ".a" * 2_000 + " = 1\n",
+    "points of a table": "[a" + ".a" * 20_000 + "]\n",
+    "brackets": "a = " + "[" * 20_000 + "]" * 20_000 + "\n",
+    "braces": "a = " + "{a=" * 20_000 + "1" + "}" * 20_000 + "\n",
+    "brackets alone": "[" * 100_000,
+    "one too many": "a" + ".a" * 80 + " = 1\n",
+    "a bracket too many": "a = " + "[" * 81 + "]" * 81 + "\n",
+    "as deep as may be": "a" + ".a" * 79 + " = " + "[" * 79 + "]" * 79 + "\n",
+    "nested": "a = " + "".join("{" + "a." * 79 + "a = " for _ in range(79)) + "1" + "}" * 79,
+    "many tables": "".join(f"[a{n}" + ".a" * 78 + "]\n" for n in range(20_000)),
+    "many short ones": "".join(f"[a{n}]\n" for n in range(300_000)),
+    "a number of digits": "a = " + "9" * 100_000 + "\n",
+    "points in a text": (
+        '[[scenario]]\nname = "' + "a." * 30 + '"\n[[ "scenario" . loss ]]\nbank = \'Nobody\'\namount = 1\n'
+    ),
 }
 
 
@@ -39,8 +57,12 @@ class Scenarios(EvidenceCase):
         for about, document in DEEP.items():
             with self.subTest(about):
                 file = self.file("s.toml", document)
-                said = clearing("stress", *FILES, "--scenarios", file).stderr.decode().strip().removeprefix("clearing: ")
-                shock = limited(500, "clearing-shock", "--banks", HUB / "banks.csv", "--scenarios", file, "--scenario", 1)
+                said = (
+                    clearing("stress", *FILES, "--scenarios", file).stderr.decode().strip().removeprefix("clearing: ")
+                )
+                shock = limited(
+                    500, "clearing-shock", "--banks", HUB / "banks.csv", "--scenarios", file, "--scenario", 1
+                )
                 self.assertEqual((shock.returncode, shock.stderr.strip().removeprefix("clearing-shock: ")), (4, said))
                 lint = limited(500, "clearing-lint", *FILES, "--scenarios", file)
                 self.assertEqual((lint.returncode, lint.stderr), (1, ""))
@@ -61,9 +83,23 @@ class Scenarios(EvidenceCase):
         losses = "".join(f"[[scenario.loss]] # {'.[{' * 9}\nbank = '''N.{n}'''\namount = {n}\n" for n in range(1000))
         document = "".join(f'[[scenario]]\nname = "{n}{"." * 40}" # ["{{[[[[\n{losses}' for n in range(80))
         self.assertIsNone(bounds.fault_of(document))
-        inline = "".join(f'[["scenario"]]\nname = \'{n}\'\nloss = [{", ".join(chr(123) + "bank = " + repr(f"N{k}") + ", amount = 1}" for k in range(100))}]\n' for n in range(100))
+        inline = "".join(
+            f"[[\"scenario\"]]\nname = '{n}'\nloss ="
+            f" [{', '.join(chr(123) + 'bank = ' + repr(f'N{k}') + ', amount = 1}' for k in range(100))}]\n"
+            for n in range(100)
+        )
         self.assertIsNone(bounds.fault_of(inline))
-        for text in ('x = """a.""b.\\"""c""""' + '"\n', "x = '''a.''b.'''''\n", "x = 'a.b\n", 'x = "a.b\\"\n', "'''", '"""', "#", "# a", ""):
+        for text in (
+            'x = """a.""b.\\"""c""""' + '"\n',
+            "x = '''a.''b.'''''\n",
+            "x = 'a.b\n",
+            'x = "a.b\\"\n',
+            "'''",
+            '"""',
+            "#",
+            "# a",
+            "",
+        ):
             self.assertIsNone(bounds.fault_of(text * 9000 if text.endswith("\n") else text), text)
         self.assertEqual(bounds.fault_of("x = 1.5\n" * 10_001), "shape")
 
@@ -71,7 +107,11 @@ class Scenarios(EvidenceCase):
 class Fields(Case):
     def judged(self, **files):
         """What audit.py says of files of which one is hostile, with a tenth of the memory that it took once."""
-        words = [word for option in ("banks", "debts", "journal") for word in (f"--{option}", self.file(option, files[option]))]
+        words = [
+            word
+            for option in ("banks", "debts", "journal")
+            for word in (f"--{option}", self.file(option, files[option]))
+        ]
         done = limited(400, "clearing-audit", *words)
         self.assertNotIn("Traceback", done.stderr)
         return done.returncode, done.stderr.strip()
@@ -80,8 +120,13 @@ class Fields(Case):
         banks, debts = "name,cash,rule\nA,1,order\nB,1,order\n", "debtor,creditor,class,claim\nA,B,1,2\n"
         head, many = "stamp,debtor,creditor,class,to\n", 20_000_000
         for about, record in [
-            ("a field of letters", f'"{"a" * many}"\n'), ("of quotes", f'"{chr(34) * many}"\n'), ("of quotes and letters", '"' + 'a""' * (many // 3) + '"\n'),
-            ("without an end", '"' + "a" * many), ("of blanks", f'1,A," {" " * many}",1,1\n'), ("many fields", "," * many + "x\n"), ("many with quotes", '"",' * 500_000 + "x\n"),
+            ("a field of letters", f'"{"a" * many}"\n'),
+            ("of quotes", f'"{chr(34) * many}"\n'),
+            ("of quotes and letters", '"' + 'a""' * (many // 3) + '"\n'),
+            ("without an end", '"' + "a" * many),
+            ("of blanks", f'1,A," {" " * many}",1,1\n'),
+            ("many fields", "," * many + "x\n"),
+            ("many with quotes", '"",' * 500_000 + "x\n"),
         ]:
             status, said = self.judged(banks=banks, debts=debts, journal=head + record)
             kind = "name (3)" if about == "of blanks" else "fields (2)"
@@ -89,8 +134,13 @@ class Fields(Case):
 
     def test_fields_are_read_as_before(self):
         for data, wanted in [
-            (b'"a""b",c\n', [[b'a"b', b"c"]]), (b'"",""""\n', [[b"", b'"']]), (b'"a"b,"c\n', [[b"ab", b"c\n"]]), (b'"a\nb",\r\n\r\nc', [[b"a\nb", b""], [b"c"]]),
-            (b"a,,,,,,,\n", [[b"a", b"", b"", b"", b"", b"", b""]]), (b"a, , , , , , ,b\n", [[b"a", b"", b"", b"", b"", b"", b"b"]]), (b'"""a"""x\n', [[b'"a"x']]),
+            (b'"a""b",c\n', [[b'a"b', b"c"]]),
+            (b'"",""""\n', [[b"", b'"']]),
+            (b'"a"b,"c\n', [[b"ab", b"c\n"]]),
+            (b'"a\nb",\r\n\r\nc', [[b"a\nb", b""], [b"c"]]),
+            (b"a,,,,,,,\n", [[b"a", b"", b"", b"", b"", b"", b""]]),
+            (b"a, , , , , , ,b\n", [[b"a", b"", b"", b"", b"", b"", b"b"]]),
+            (b'"""a"""x\n', [[b'"a"x']]),
         ]:
             self.assertEqual(list(audit.records(data)), wanted, data)
 
@@ -101,10 +151,18 @@ class Bounded(Case):
         os.truncate(sparse, 12 << 30)
         sheet = self.file("sheet.csv", "debtor,creditor,amount\nA,B,1\n")
         for name, words in [
-            ("clearing-draws", [*FILES, "--draws", 2, "--moments", "/dev/zero"]), ("clearing-draws", [*FILES, "--draws", 2, "--past", sparse]),
-            ("clearing-tidy", ["/dev/zero", "--folder", self.folder / "tables"]), ("clearing-tidy", [sparse, "--folder", self.folder / "tables"]),
-            ("clearing-evidence", ["make", self.folder / "evidence", "--source", f"from_list.py {sparse} --table {sheet}"]),
-            ("clearing-evidence", ["make", self.folder / "evidence", "--source", f"from_list.py {sheet} --table {sparse}"]),
+            ("clearing-draws", [*FILES, "--draws", 2, "--moments", "/dev/zero"]),
+            ("clearing-draws", [*FILES, "--draws", 2, "--past", sparse]),
+            ("clearing-tidy", ["/dev/zero", "--folder", self.folder / "tables"]),
+            ("clearing-tidy", [sparse, "--folder", self.folder / "tables"]),
+            (
+                "clearing-evidence",
+                ["make", self.folder / "evidence", "--source", f"from_list.py {sparse} --table {sheet}"],
+            ),
+            (
+                "clearing-evidence",
+                ["make", self.folder / "evidence", "--source", f"from_list.py {sheet} --table {sparse}"],
+            ),
         ]:
             with self.subTest(name, words=words):
                 done = limited(1200, name, *words)
@@ -123,10 +181,22 @@ class Endless(unittest.TestCase):
         runs, seen = [], set()
         for name, words, _, how in lines.each():
             for at, word in enumerate(words):
-                if isinstance(word, pathlib.Path) and lines.inputs in word.parents and (name, word.name) not in seen and name != "clearing-why":
+                if (
+                    isinstance(word, pathlib.Path)
+                    and lines.inputs in word.parents
+                    and (name, word.name) not in seen
+                    and name != "clearing-why"
+                ):
                     seen.add((name, word.name))
                     endless = (sparse, "/dev/zero")[len(seen) % 2] if word.name != "jobs.tsv" else sparse
-                    runs.append((name, lines.placed([*words[:at], endless, *words[at + 1 :]], lines.out / f"place-{len(seen)}"), how.get("python"), word.name))
+                    runs.append(
+                        (
+                            name,
+                            lines.placed([*words[:at], endless, *words[at + 1 :]], lines.out / f"place-{len(seen)}"),
+                            how.get("python"),
+                            word.name,
+                        )
+                    )
 
         def ends(run):
             name, words, python, given = run
@@ -134,7 +204,11 @@ class Endless(unittest.TestCase):
                 done = limited(2500, name, *words, python=python, seconds=240)
             except subprocess.TimeoutExpired:
                 return f"{name} {given}: it goes on"
-            if done.returncode <= 0 or "Traceback" in done.stderr or any(word in done.stderr for word in ("MemoryError", "not enough memory")):
+            if (
+                done.returncode <= 0
+                or "Traceback" in done.stderr
+                or any(word in done.stderr for word in ("MemoryError", "not enough memory"))
+            ):
                 return f"{name} {given}: {done.returncode} {done.stderr[-500:]}"
             return None
 

@@ -1,4 +1,5 @@
-"""What tools say when their input is hostile: no traceback, no sign that moves a terminal, no line that a file has made up, nothing on a closed stream."""
+"""What tools say when their input is hostile: no traceback, no sign that moves a terminal, no line that a file has
+made up, nothing on a closed stream."""
 import os
 import pathlib
 import subprocess
@@ -15,7 +16,9 @@ MADE_UP = "x\nchecked: all files are fine\x1b[2J\x9b1A\u202e"
 def ways(text):
     """A text with what Python, a terminal or a reader of lines stumbles over in the place of its fields."""
     header, *rows = text.split("\n")
-    yield "digits", "\n".join([header] + [",".join("9" * 5000 if field.isdigit() else field for field in row.split(",")) for row in rows])
+    yield "digits", "\n".join(
+        [header] + [",".join("9" * 5000 if field.isdigit() else field for field in row.split(",")) for row in rows]
+    )
     yield "blanks", "\n".join([header] + [row.replace(",", "," + " " * 200_000, 1) for row in rows])
     yield "controls", "\n".join([header] + [row.replace(",", "\x1b[2J\x9b1A\u202e,", 1) for row in rows])
     yield "a NUL", "\n".join([header] + [row + "\0" for row in rows])
@@ -30,12 +33,20 @@ class Hostile(unittest.TestCase):
         seen = set()
         for name, words, asks, how in lines.each():
             for at, word in enumerate(words):
-                if not (isinstance(word, pathlib.Path) and lines.inputs in word.parents) or (name, word.name) in seen or name in ("clearing-why", "clearing-evidence", "clearing-many"):
+                if (
+                    not (isinstance(word, pathlib.Path) and lines.inputs in word.parents)
+                    or (name, word.name) in seen
+                    or name in ("clearing-why", "clearing-evidence", "clearing-many")
+                ):
                     continue
                 seen.add((name, word.name))
                 for about, text in ways(word.read_text(encoding="utf-8")):
                     bad = lines.given("bad", text)
-                    done = lines.attempt(name, *lines.placed([*words[:at], bad, *words[at + 1 :]], lines.out / f"{about}-{len(seen)}"), **how)
+                    done = lines.attempt(
+                        name,
+                        *lines.placed([*words[:at], bad, *words[at + 1 :]], lines.out / f"{about}-{len(seen)}"),
+                        **how,
+                    )
                     said = (done.stdout + done.stderr).decode(errors="replace")
                     with self.subTest(tool=name, file=word.name, how=about):
                         self.assertNotIn("Traceback", said)
@@ -51,9 +62,18 @@ class Hostile(unittest.TestCase):
         seen = set()
         for name, words, asks, how in lines.each():
             for at, word in enumerate(words):
-                if isinstance(word, pathlib.Path) and lines.inputs in word.parents and name not in seen and name != "clearing-why":
+                if (
+                    isinstance(word, pathlib.Path)
+                    and lines.inputs in word.parents
+                    and name not in seen
+                    and name != "clearing-why"
+                ):
                     seen.add(name)
-                    done = lines.attempt(name, *lines.placed([*words[:at], MADE_UP, *words[at + 1 :]], lines.out / f"place-{len(seen)}"), **how)
+                    done = lines.attempt(
+                        name,
+                        *lines.placed([*words[:at], MADE_UP, *words[at + 1 :]], lines.out / f"place-{len(seen)}"),
+                        **how,
+                    )
                     said = (done.stdout + done.stderr).decode(errors="replace")
                     with self.subTest(tool=name):
                         self.assertGreater(done.returncode, 0, said)
@@ -65,7 +85,12 @@ class Hostile(unittest.TestCase):
 class Words(test_hostile.Place):
     def test_no_word_moves_a_terminal(self):
         for path in sorted((ROOT / "bin").iterdir()):
-            for words in ([f"--none={MADE_UP}"], [MADE_UP, MADE_UP, MADE_UP], ["check", MADE_UP], ["make", self.out / "place", "--banks", MADE_UP, "--debts", MADE_UP]):
+            for words in (
+                [f"--none={MADE_UP}"],
+                [MADE_UP, MADE_UP, MADE_UP],
+                ["check", MADE_UP],
+                ["make", self.out / "place", "--banks", MADE_UP, "--debts", MADE_UP],
+            ):
                 done = self.attempt(path.name, *words)
                 said = (done.stdout + done.stderr).decode(errors="replace")
                 with self.subTest(tool=path.name, words=words[:1]):
@@ -77,14 +102,24 @@ class Words(test_hostile.Place):
 class Streams(Case):
     def run_closed(self, close, *words):
         environment = {**os.environ, "CLEARING": os.path.realpath(PROGRAM)}
-        return subprocess.run(["sh", "-c", f'exec "$@" {close}', "sh", *map(str, words)], env=environment, capture_output=True, encoding="utf-8")
+        return subprocess.run(
+            ["sh", "-c", f'exec "$@" {close}', "sh", *map(str, words)],
+            env=environment,
+            capture_output=True,
+            encoding="utf-8",
+        )
 
     def test_a_closed_stream_is_no_file(self):
-        """What is said goes to no file that took the number of a closed stream, and an output that cannot be written is told."""
+        """What is said goes to no file that took the number of a closed stream, and an output that cannot be written
+        is told."""
         scenarios = self.file("s.toml", '[[scenario]]\nname = "a"\n')
         for name, words in [
-            ("clearing-lint", FILES), ("clearing-audit", [*FILES, "--journal", HUB / "debts.csv"]), ("clearing-shock", ["--banks", HUB / "banks.csv", "--scenarios", scenarios, "--scenario", 1]),
-            ("clearing-evidence", ["check", self.folder]), ("clearing-breaking", FILES), ("clearing-to-matrix", FILES),
+            ("clearing-lint", FILES),
+            ("clearing-audit", [*FILES, "--journal", HUB / "debts.csv"]),
+            ("clearing-shock", ["--banks", HUB / "banks.csv", "--scenarios", scenarios, "--scenario", 1]),
+            ("clearing-evidence", ["check", self.folder]),
+            ("clearing-breaking", FILES),
+            ("clearing-to-matrix", FILES),
         ]:
             done = self.run_closed("2>&-", *run_of(name), *words)
             self.assertNotIn("Traceback", done.stdout + done.stderr, name)
@@ -101,9 +136,21 @@ class Streams(Case):
     def test_what_makes_bytes_of_bytes_is_no_encoding(self):
         sheet = self.file("sheet.csv", "debtor,creditor,amount\nA,B,1\n")
         for encoding in ("zlib", "base64", "rot13", "hex", "no\0ne", "\x1b[2J"):
-            done = subprocess.run([sys.executable, "-c", "import sys; sys.path.insert(0, sys.argv.pop(1)); sys.argv[0] = 'from_list.py'\n"
-                                   f"sys.argv[1:] = [sys.argv[1], '--encoding', {encoding!r}]\nfrom clearing_tools.imports.exposure_list import main; main()",
-                                   str(ROOT / "python/src"), str(sheet)], capture_output=True, encoding="utf-8")
+            done = subprocess.run(
+                [
+                    sys.executable,
+                    "-c",
+                    (
+                        "import sys; sys.path.insert(0, sys.argv.pop(1)); sys.argv[0] = 'from_list.py'\nsys.argv[1:] ="
+                        f" [sys.argv[1], '--encoding', {encoding!r}]\nfrom clearing_tools.imports.exposure_list import"
+                        " main; main()"
+                    ),
+                    str(ROOT / "python/src"),
+                    str(sheet),
+                ],
+                capture_output=True,
+                encoding="utf-8",
+            )
             self.assertEqual(done.returncode, 2, (encoding, done.stderr))
             self.assertNotIn("Traceback", done.stderr, encoding)
             self.assertNotIn("\x1b", done.stderr)

@@ -1,5 +1,5 @@
-"""Two thousand altered files over all readers of the package: none makes a traceback, and none has a number read otherwise than another
-reader reads it (tests/system/mutations.py)."""
+"""Two thousand altered files over all readers of the package: none makes a traceback, and none has a number read
+otherwise than another reader reads it (tests/system/mutations.py)."""
 import sys
 import unittest
 
@@ -19,7 +19,9 @@ class Mutations(Case):
         self.assertEqual(told, [], f"seed {SEED}")
         # Neither is all refused nor all taken, by any reader.
         self.assertEqual(set(counts), {reader.__name__ for reader in mutations.READERS})
-        self.assertGreaterEqual(sum(sum(taken.values()) for taken in counts.values()), FILES - 2 * len(mutations.READERS))
+        self.assertGreaterEqual(
+            sum(sum(taken.values()) for taken in counts.values()), FILES - 2 * len(mutations.READERS)
+        )
         for reader, taken in counts.items():
             least = 1 if reader in ("Workbooks", "Commands", "Folders") else 10
             self.assertGreaterEqual(min(taken.get(True, 0), taken.get(False, 0)), least, (reader, taken))

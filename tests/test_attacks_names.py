@@ -1,5 +1,5 @@
-"""Names that a spreadsheet takes for formulas, and what XML cannot hold; and what bounds the work of lint and of the completion on hostile
-files, which bench/tools.py times."""
+"""Names that a spreadsheet takes for formulas, and what XML cannot hold; and what bounds the work of lint and of the
+completion on hostile files, which bench/tools.py times."""
 import difflib
 import os
 import re
@@ -40,8 +40,12 @@ class Xml(Case):
 
     @needs_modules("networkx")
     def test_a_graph_of_them_is_well_formed(self):
-        defaults = self.file("defaults.csv", "bank,estate,paid,owed,equity,state\n" + "".join(f"{name},1,0,0,1,sound\n" for name in BARRED)
-                             + f"total,{len(BARRED)},0,0,{len(BARRED)},0\ncash,{len(BARRED)}\n")
+        defaults = self.file(
+            "defaults.csv",
+            "bank,estate,paid,owed,equity,state\n"
+            + "".join(f"{name},1,0,0,1,sound\n" for name in BARRED)
+            + f"total,{len(BARRED)},0,0,{len(BARRED)},0\ncash,{len(BARRED)}\n",
+        )
         payments, graph = self.file("payments.csv", "debtor,creditor,class,claim,paid\n"), self.folder / "g.graphml"
         done = tool("clearing-to-graphml", payments, defaults, "--out", graph, python=python_with("networkx"))
         self.assertEqual((done.returncode, done.stderr), (0, ""))
@@ -59,7 +63,9 @@ class Bounded(Case):
 
     def test_many_unknown_names_have_few_searches(self):
         banks = b"name,cash,rule\n" + b"".join(b"Bank %d of the north,1,order\n" % n for n in range(1000))
-        debts = b"debtor,creditor,class,claim\n" + b"".join(b"Bank %d of the South,Bank 1 of the north,1,1\n" % n for n in range(60_000))
+        debts = b"debtor,creditor,class,claim\n" + b"".join(
+            b"Bank %d of the South,Bank 1 of the north,1,1\n" % n for n in range(60_000)
+        )
         faults, searches = self.faults(banks, debts)
         self.assertEqual(sum(fault.kind == "unknown bank" for fault in faults), 60_000)
         self.assertTrue(0 < searches <= 50, searches)
@@ -74,8 +80,12 @@ class Bounded(Case):
         self.assertGreater(len(faults), 100_000)
         self.assertTrue(0 < searches <= field_hints.MOST_HINTS + 50, searches)
         good = b"name,cash,rule\n" + b"".join(b"B%d,1,order\n" % n for n in range(900))
-        net = b"debtor,creditor,class,claim\n" + b"".join(b"B%d,B%d,1,1\n" % (n % 900, (n + 1 + n // 900) % 900) for n in range(15_000))
-        journal = b"stamp,debtor,creditor,class,to\n" + b"".join(b"1,B%d,B%d,2,1\n" % (n % 900, (n + 1) % 900) for n in range(20_000))
+        net = b"debtor,creditor,class,claim\n" + b"".join(
+            b"B%d,B%d,1,1\n" % (n % 900, (n + 1 + n // 900) % 900) for n in range(15_000)
+        )
+        journal = b"stamp,debtor,creditor,class,to\n" + b"".join(
+            b"1,B%d,B%d,2,1\n" % (n % 900, (n + 1) % 900) for n in range(20_000)
+        )
         faults, searches = self.faults(good, net, journal=journal)
         self.assertEqual((len(faults), searches), (20_000, 0))
         keys = b'[[scenario]]\nname = "a"\n' + b"".join(b"nam%d = 1\n" % n for n in range(60_000))
@@ -90,16 +100,26 @@ class Completing(Case):
         """What is offered for the name of a bank."""
         self.file("banks.csv", content)
         line = f"clearing rescue --banks banks.csv --debts d.csv --bank {typed}"
-        script = f'source "{ROOT}/tools/clearing.bash"; COMP_LINE=$1 COMP_POINT=${{#1}}; _clearing clearing "$2" 2>/dev/null; printf "%s\\n" "${{COMPREPLY[@]}}"'
-        done = subprocess.run(["bash", "--norc", "-c", script, "bash", line, typed], cwd=self.folder, env={**os.environ, "LC_ALL": "C.UTF-8"}, capture_output=True,
-                              timeout=300)
+        script = (
+            f'source "{ROOT}/tools/clearing.bash"; COMP_LINE=$1 COMP_POINT=${{#1}}; _clearing clearing "$2"'
+            ' 2>/dev/null; printf "%s\\n" "${COMPREPLY[@]}"'
+        )
+        done = subprocess.run(
+            ["bash", "--norc", "-c", script, "bash", line, typed],
+            cwd=self.folder,
+            env={**os.environ, "LC_ALL": "C.UTF-8"},
+            capture_output=True,
+            timeout=300,
+        )
         return done.stdout.split(b"\n")[:-1]
 
     def test_of_eight_megabytes_a_part_is_looked_at(self):
         for about, content in [
             ("many banks", b"name,cash,rule\n" + b"".join(b"Bank%d,1,order\n" % n for n in range(450_000))),
-            ("one line", b"name,cash,rule\nA,1,order\n" + b"x" * 8_000_000), ("commas", b"name,cash,rule\nA,1,order\n" + b"," * 8_000_000),
-            ("empty lines", b"name,cash,rule\n" + b"\n" * 8_000_000 + b"A,1,order\n"), ("NUL", b"name,cash,rule\nA,1,order\n" + b"\0" * 8_000_000),
+            ("one line", b"name,cash,rule\nA,1,order\n" + b"x" * 8_000_000),
+            ("commas", b"name,cash,rule\nA,1,order\n" + b"," * 8_000_000),
+            ("empty lines", b"name,cash,rule\n" + b"\n" * 8_000_000 + b"A,1,order\n"),
+            ("NUL", b"name,cash,rule\nA,1,order\n" + b"\0" * 8_000_000),
         ]:
             with self.subTest(about):
                 found = self.names(content)
@@ -107,38 +127,92 @@ class Completing(Case):
                 self.assertLessEqual(len(found), 10_000)
 
     def test_what_is_no_utf_8_hides_no_other_name(self):
-        found = self.names(b"name,cash,rule\nAlpha,1,order\nB\xffeta,1,order\nGamma,1,order\n\xc3\x28,1,order\nDelta,1,order\n")
+        found = self.names(
+            b"name,cash,rule\nAlpha,1,order\nB\xffeta,1,order\nGamma,1,order\n\xc3\x28,1,order\nDelta,1,order\n"
+        )
         for name in (b"Alpha", b"Gamma", b"Delta"):
             self.assertIn(name, found)
 
 
-HOSTILE = ["$(touch X)", "`touch X`", "; touch X", "a b", "it's", "*", "~", "a|touch X", "\\\\", "=x", "(a)", "[a-z]", "{a..b}", "!!", "a#b", "Cr\u00e9dit"]
+HOSTILE = [
+    "$(touch X)",
+    "`touch X`",
+    "; touch X",
+    "a b",
+    "it's",
+    "*",
+    "~",
+    "a|touch X",
+    "\\\\",
+    "=x",
+    "(a)",
+    "[a-z]",
+    "{a..b}",
+    "!!",
+    "a#b",
+    "Cr\u00e9dit",
+]
 
 
 class OtherShells(Case):
     def banks(self):
         """A file with hostile names, and what is no name behind them."""
-        return self.file("banks.csv", ("name,cash,rule\n" + "".join(f"{name},1,order\n" for name in HOSTILE)).encode()
-                         + b"-x,1,order\nx\x1b[2J,1,order\nx\tdescribed,1,order\nx\xc2\x9b1A,1,order\n\0" + b"y" * 5000 + b",1,order\nZ\xff,1,order\nlast,1,order\n")
+        return self.file(
+            "banks.csv",
+            ("name,cash,rule\n" + "".join(f"{name},1,order\n" for name in HOSTILE)).encode()
+            + b"-x,1,order\nx\x1b[2J,1,order\nx\tdescribed,1,order\nx\xc2\x9b1A,1,order\n\0"
+            + b"y" * 5000
+            + b",1,order\nZ\xff,1,order\nlast,1,order\n",
+        )
 
     def check(self, found):
-        self.assertEqual([name for name in found if name not in (b"Z\xff", b"last")], [name.encode() for name in HOSTILE])
+        self.assertEqual(
+            [name for name in found if name not in (b"Z\xff", b"last")], [name.encode() for name in HOSTILE]
+        )
         self.assertIn(b"last", found)
         self.assertFalse((self.folder / "X").exists())
 
     @needs("fish")
     def test_fish_offers_names_as_they_are(self):
         self.banks()
-        environment = {**os.environ, "HOME": str(self.folder), "LC_ALL": "C.UTF-8", "XDG_DATA_HOME": str(self.folder), "XDG_CONFIG_HOME": str(self.folder)}
+        environment = {
+            **os.environ,
+            "HOME": str(self.folder),
+            "LC_ALL": "C.UTF-8",
+            "XDG_DATA_HOME": str(self.folder),
+            "XDG_CONFIG_HOME": str(self.folder),
+        }
         run = lambda file: subprocess.run(
-            ["fish", "-N", "-c", f"source {ROOT}/tools/clearing.fish; function commandline; printf '%s\\n' clearing rescue --banks {file}; end; __clearing_banks"],
-            cwd=self.folder, env=environment, capture_output=True, timeout=120)
+            [
+                "fish",
+                "-N",
+                "-c",
+                (
+                    f"source {ROOT}/tools/clearing.fish; function commandline; printf '%s\\n' clearing rescue --banks"
+                    f" {file}; end; __clearing_banks"
+                ),
+            ],
+            cwd=self.folder,
+            env=environment,
+            capture_output=True,
+            timeout=120,
+        )
         self.check(run("banks.csv").stdout.split(b"\n")[:-1])
         os.mkfifo(self.folder / "pipe")
         for file in ("/dev/zero", "pipe", "none", "."):
             self.assertEqual(run(file).stdout, b"", file)
-        offered = subprocess.run(["fish", "-N", "-c", f"source {ROOT}/tools/clearing.fish; complete -C 'clearing rescue --banks banks.csv --bank '"],
-                                 cwd=self.folder, env=environment, capture_output=True, timeout=120).stdout.decode(errors="replace")
+        offered = subprocess.run(
+            [
+                "fish",
+                "-N",
+                "-c",
+                f"source {ROOT}/tools/clearing.fish; complete -C 'clearing rescue --banks banks.csv --bank '",
+            ],
+            cwd=self.folder,
+            env=environment,
+            capture_output=True,
+            timeout=120,
+        ).stdout.decode(errors="replace")
         for name in ("$(touch X)", "; touch X", "last"):
             self.assertIn(name, offered)
         self.assertFalse((self.folder / "X").exists())
@@ -146,10 +220,17 @@ class OtherShells(Case):
     @needs("zsh")
     def test_zsh_offers_names_as_they_are(self):
         self.banks()
-        script = ("_describe() { : }; words=(clearing); CURRENT=1; source $1/tools/clearing.zsh; "
-                  'compadd() { print -rl -- "${(@P)2}" }; words=(clearing rescue --banks $2 --bank ""); _clearing_banks')
-        run = lambda file: subprocess.run(["zsh", "-f", "-c", script, "zsh", str(ROOT), file], cwd=self.folder, env={**os.environ, "LC_ALL": "C.UTF-8"},
-                                          capture_output=True, timeout=120)
+        script = (
+            "_describe() { : }; words=(clearing); CURRENT=1; source $1/tools/clearing.zsh; "
+            'compadd() { print -rl -- "${(@P)2}" }; words=(clearing rescue --banks $2 --bank ""); _clearing_banks'
+        )
+        run = lambda file: subprocess.run(
+            ["zsh", "-f", "-c", script, "zsh", str(ROOT), file],
+            cwd=self.folder,
+            env={**os.environ, "LC_ALL": "C.UTF-8"},
+            capture_output=True,
+            timeout=120,
+        )
         self.check(run("banks.csv").stdout.split(b"\n")[:-1])
         os.mkfifo(self.folder / "pipe")
         for file in ("/dev/zero", "pipe", "none", "."):
@@ -163,7 +244,8 @@ class OtherShells(Case):
         self.file("there/_clearing", (ROOT / "tools/clearing.zsh").read_bytes())
         script = f"""
             zmodload zsh/zpty; cd {self.folder}; zpty z zsh -f -i
-            zpty -w z "PS1=; fpath=({self.folder}/there \\$fpath); autoload -U compinit; compinit -u -d {self.folder}/dump; echo REA''DY"
+            zpty -w z "PS1=; fpath=({self.folder}/there \\$fpath); autoload -U compinit"
+            zpty -w z "compinit -u -d {self.folder}/dump; echo REA''DY"
             zpty -r -m z begun '*READY*'; zpty -w -n z $'clearing rescue --banks banks.csv --bank \\t'
             for try in {{1..300}}; do
                 sleep 0.1; while zpty -r -t z more; do out+=$more; done
@@ -171,7 +253,13 @@ class OtherShells(Case):
             done
             print -r -- $out
         """
-        done = subprocess.run(["zsh", "-f", "-c", script], cwd=self.folder, env={**os.environ, "LC_ALL": "C.UTF-8"}, capture_output=True, timeout=300)
+        done = subprocess.run(
+            ["zsh", "-f", "-c", script],
+            cwd=self.folder,
+            env={**os.environ, "LC_ALL": "C.UTF-8"},
+            capture_output=True,
+            timeout=300,
+        )
         typed = re.sub("\x1b\\[[0-9;?]*[A-Za-z]", "", done.stdout.decode(errors="replace")).split("--bank ")[-1].strip()
         self.assertEqual(shlex.split(typed), ["$(touch X)`touch Y`;touch Z"], done.stdout)
         self.assertEqual([name for name in "XYZ" if (self.folder / name).exists()], [])

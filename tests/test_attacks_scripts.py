@@ -25,8 +25,17 @@ class Installing(Case):
 
     def start(self, mask=0o022, **more):
         environment = {**os.environ, "CLEARING": str(self.script)}
-        return subprocess.Popen([str(ROOT / "tools/install.sh"), str(self.prefix)], env=environment, preexec_fn=lambda: os.umask(mask), stdin=subprocess.DEVNULL,
-                                stdout=subprocess.PIPE, stderr=subprocess.PIPE, encoding="utf-8", start_new_session=True, **more)
+        return subprocess.Popen(
+            [str(ROOT / "tools/install.sh"), str(self.prefix)],
+            env=environment,
+            preexec_fn=lambda: os.umask(mask),
+            stdin=subprocess.DEVNULL,
+            stdout=subprocess.PIPE,
+            stderr=subprocess.PIPE,
+            encoding="utf-8",
+            start_new_session=True,
+            **more,
+        )
 
     def test_what_is_installed_is_for_all_and_nobody_else_writes_it(self):
         modes = []
@@ -34,7 +43,11 @@ class Installing(Case):
             running = self.start(mask)
             _, said = running.communicate(timeout=300)
             self.assertEqual((running.returncode, said), (0, ""))
-            found = {str(path.relative_to(self.prefix)): stat.S_IMODE(path.lstat().st_mode) for path in self.prefix.rglob("*") if not path.is_symlink()}
+            found = {
+                str(path.relative_to(self.prefix)): stat.S_IMODE(path.lstat().st_mode)
+                for path in self.prefix.rglob("*")
+                if not path.is_symlink()
+            }
             for name, mode in found.items():
                 self.assertEqual((mode & 0o022, mode & 0o044), (0, 0o044), (name, oct(mode), oct(mask)))
             modes.append(found)
@@ -69,10 +82,21 @@ class Many(Case):
         program = self.file(f"x\ntouch {str(mark).replace('/', '_')}\n: it's", "#!/bin/sh\necho ran\n")
         program.chmod(0o755)
         environment = {**os.environ, "CLEARING": str(program)}
-        printed = subprocess.run([str(ROOT / "bin/clearing-many"), "slurm", str(jobs), str(self.folder / "out\n")], env=environment, capture_output=True, encoding="utf-8")
+        printed = subprocess.run(
+            [str(ROOT / "bin/clearing-many"), "slurm", str(jobs), str(self.folder / "out\n")],
+            env=environment,
+            capture_output=True,
+            encoding="utf-8",
+        )
         self.assertEqual((printed.returncode, printed.stderr), (0, ""))
         before = sorted(os.listdir(self.folder))
-        done = subprocess.run(["sh", "-c", printed.stdout], env={**os.environ, "SLURM_ARRAY_TASK_ID": "1"}, cwd=self.folder, capture_output=True, encoding="utf-8")
+        done = subprocess.run(
+            ["sh", "-c", printed.stdout],
+            env={**os.environ, "SLURM_ARRAY_TASK_ID": "1"},
+            cwd=self.folder,
+            capture_output=True,
+            encoding="utf-8",
+        )
         self.assertEqual((done.returncode, done.stderr), (0, ""))
         self.assertEqual(sorted(os.listdir(self.folder)), sorted([*before, "out\n"]))
         self.assertEqual((self.folder / "out\n/a.out").read_text(), "ran\n")
@@ -81,9 +105,16 @@ class Many(Case):
         banks = self.file("banks.csv", (HUB / "banks.csv").read_bytes())
         jobs = self.file("jobs.tsv", "\t".join(["a", "check", "--banks", str(banks), *map(str, FILES[2:])]) + "\n")
         self.program(f'echo >>"{banks}"\necho done\n')
-        done = subprocess.run([str(ROOT / "bin/clearing-many"), "run", str(jobs), str(self.folder / "out"), "1"], capture_output=True, encoding="utf-8")
+        done = subprocess.run(
+            [str(ROOT / "bin/clearing-many"), "run", str(jobs), str(self.folder / "out"), "1"],
+            capture_output=True,
+            encoding="utf-8",
+        )
         self.assertEqual((done.returncode, done.stdout), (1, "0 done, 1 failed\n"))
-        self.assertEqual((self.folder / "out/a.failed").read_text(), "status 0, but a file or the program changed while the job ran\n")
+        self.assertEqual(
+            (self.folder / "out/a.failed").read_text(),
+            "status 0, but a file or the program changed while the job ran\n",
+        )
         self.assertEqual(sorted(os.listdir(self.folder / "out")), ["a.failed"])
 
 
@@ -91,7 +122,16 @@ class Reporting(Case):
     def test_an_input_that_changes_is_told(self):
         banks = self.file("banks.csv", (HUB / "banks.csv").read_bytes())
         self.program(f'[ "$1" != bounds ] || echo >>"{banks}"\nexec {shlex.quote(os.path.realpath(PROGRAM))} "$@"\n')
-        self.refused("clearing-report", 1, "banks.csv changed while the report was made", "--banks", banks, *FILES[2:], "--out", self.folder / "page.html")
+        self.refused(
+            "clearing-report",
+            1,
+            "banks.csv changed while the report was made",
+            "--banks",
+            banks,
+            *FILES[2:],
+            "--out",
+            self.folder / "page.html",
+        )
         self.assertFalse((self.folder / "page.html").exists())
 
 
@@ -100,10 +140,14 @@ class Launching(unittest.TestCase):
         launcher = test_launcher.Launcher("test_it_is_built_once")
         launcher.setUp()
         self.addCleanup(launcher.doCleanups)
-        launcher.rt.write_text('#!/bin/sh\necho "path=${PYTHONPATH-none}" >>"$CALLS"\n' + test_launcher.TOOLCHAIN.split("\n", 1)[1])
+        launcher.rt.write_text(
+            '#!/bin/sh\necho "path=${PYTHONPATH-none}" >>"$CALLS"\n' + test_launcher.TOOLCHAIN.split("\n", 1)[1]
+        )
         done = launcher.run_at(launcher.root, "a", PYTHONPATH=":")
         self.assertEqual((done.returncode, done.stdout), (0, "a here\n"))
-        self.assertEqual({line for line in launcher.calls.read_text().split("\n") if line.startswith("path=")}, {"path=none"})
+        self.assertEqual(
+            {line for line in launcher.calls.read_text().split("\n") if line.startswith("path=")}, {"path=none"}
+        )
 
 
 class Importing(Case):
@@ -111,7 +155,12 @@ class Importing(Case):
         mark = self.folder / "mark"
         for name in ("argparse", "hashlib", "tempfile", "pathlib", "json", "tomllib"):
             self.file(f"{name}.py", f"open({str(mark)!r}, 'w')\n")
-        done = subprocess.run([str(ROOT / "bin/clearing-evidence"), "check", "."], cwd=self.folder, env={**os.environ, "PYTHONPATH": ":"}, capture_output=True)
+        done = subprocess.run(
+            [str(ROOT / "bin/clearing-evidence"), "check", "."],
+            cwd=self.folder,
+            env={**os.environ, "PYTHONPATH": ":"},
+            capture_output=True,
+        )
         self.assertEqual(done.returncode, 3)
         self.assertFalse(mark.exists())
 
@@ -131,8 +180,15 @@ class Ended(Case):
         self.program('echo begun >>"$BEGUN"\nwhile :; do sleep 0.2; done\n')
         environment = {**os.environ, "BEGUN": str(self.folder / "begun")}
         environment.pop("MANY_SESSION", None)
-        running = subprocess.Popen([str(ROOT / "bin/clearing-many"), *map(str, words)], env=environment, stdin=subprocess.DEVNULL, stdout=subprocess.PIPE,
-                                   stderr=subprocess.PIPE, encoding="utf-8", start_new_session=True)
+        running = subprocess.Popen(
+            [str(ROOT / "bin/clearing-many"), *map(str, words)],
+            env=environment,
+            stdin=subprocess.DEVNULL,
+            stdout=subprocess.PIPE,
+            stderr=subprocess.PIPE,
+            encoding="utf-8",
+            start_new_session=True,
+        )
         self.addCleanup(running.stdout.close)
         self.addCleanup(running.stderr.close)
         return running
@@ -147,10 +203,13 @@ class Ended(Case):
 
     def test_a_signal_ends_all_jobs_and_what_is_left_is_counted(self):
         jobs = self.file("jobs.tsv", "".join(f"job-{at}\tgen\t{at}\n" for at in range(20)))
-        for number, words, count, told in [(signal.SIGTERM, ["run", jobs, self.folder / "a", 14], 14, "0 done, 0 failed, 20 not finished\n"),
-                                           (signal.SIGINT, ["run", jobs, self.folder / "b", 3], 3, "0 done, 0 failed, 20 not finished\n"),
-                                           (signal.SIGHUP, ["run", jobs, self.folder / "c", 2], 2, "0 done, 0 failed, 20 not finished\n"),
-                                           (signal.SIGTERM, ["one", jobs, self.folder / "d", 1], 1, ""), (signal.SIGTERM, ["one", jobs, self.folder / "e", 1, 9], 1, "")]:
+        for number, words, count, told in [
+            (signal.SIGTERM, ["run", jobs, self.folder / "a", 14], 14, "0 done, 0 failed, 20 not finished\n"),
+            (signal.SIGINT, ["run", jobs, self.folder / "b", 3], 3, "0 done, 0 failed, 20 not finished\n"),
+            (signal.SIGHUP, ["run", jobs, self.folder / "c", 2], 2, "0 done, 0 failed, 20 not finished\n"),
+            (signal.SIGTERM, ["one", jobs, self.folder / "d", 1], 1, ""),
+            (signal.SIGTERM, ["one", jobs, self.folder / "e", 1, 9], 1, ""),
+        ]:
             with contextlib.suppress(FileNotFoundError):
                 (self.folder / "begun").unlink()
             running = self.start(*words)
@@ -162,7 +221,12 @@ class Ended(Case):
             self.assertEqual(self.running(), 0, words)
         # The same command goes on.
         self.program("echo done\n")
-        done = subprocess.run([str(ROOT / "bin/clearing-many"), "run", str(jobs), str(self.folder / "a")], stdin=subprocess.DEVNULL, capture_output=True, encoding="utf-8")
+        done = subprocess.run(
+            [str(ROOT / "bin/clearing-many"), "run", str(jobs), str(self.folder / "a")],
+            stdin=subprocess.DEVNULL,
+            capture_output=True,
+            encoding="utf-8",
+        )
         self.assertEqual((done.returncode, done.stdout), (0, "20 done, 0 failed\n"), done.stderr)
         self.assertEqual({path.suffix for path in (self.folder / "a").iterdir()}, {".out", ".job"})
 
@@ -170,7 +234,12 @@ class Ended(Case):
         self.program('echo "$*"\n')
         jobs = self.file("jobs.tsv", "a\tgen\t1\n")
         with open(jobs) as given:
-            done = subprocess.run([str(ROOT / "bin/clearing-many"), "one", "/dev/stdin", str(self.folder / "f"), "1"], stdin=given, capture_output=True, encoding="utf-8")
+            done = subprocess.run(
+                [str(ROOT / "bin/clearing-many"), "one", "/dev/stdin", str(self.folder / "f"), "1"],
+                stdin=given,
+                capture_output=True,
+                encoding="utf-8",
+            )
         self.assertEqual((done.returncode, (self.folder / "f/a.out").read_text()), (0, "gen 1\n"), done.stderr)
 
 
@@ -178,13 +247,20 @@ class Prefixes(Installing):
     locals().update({name: None for name in vars(Installing) if name.startswith("test_")})
 
     def run_it(self, prefix):
-        return subprocess.run([str(ROOT / "tools/install.sh"), str(prefix)], env={**os.environ, "CLEARING": str(self.script)}, stdin=subprocess.DEVNULL,
-                              capture_output=True, encoding="utf-8")
+        return subprocess.run(
+            [str(ROOT / "tools/install.sh"), str(prefix)],
+            env={**os.environ, "CLEARING": str(self.script)},
+            stdin=subprocess.DEVNULL,
+            capture_output=True,
+            encoding="utf-8",
+        )
 
     def test_a_prefix_with_the_end_of_a_line_is_refused(self):
         for name in ("a\nb", "a\n", "\nb", "a\rb", "a\x1b[2J"):
             done = self.run_it(self.folder / "in" / name)
-            self.assertEqual((done.returncode, done.stdout, (self.folder / "in").exists()), (2, "", False), (name, done.stderr))
+            self.assertEqual(
+                (done.returncode, done.stdout, (self.folder / "in").exists()), (2, "", False), (name, done.stderr)
+            )
             self.assertNotIn("\x1b", done.stderr)
 
     @unittest.skipUnless(os.geteuid() == 0, "only root gives files to others")
@@ -200,7 +276,14 @@ class Prefixes(Installing):
                 done = self.run_it(self.prefix)
                 self.assertEqual((done.returncode, done.stdout), (1, ""), (name, kind))
                 self.assertIn("is another user's", done.stderr)
-                self.assertEqual([path for path in [*elsewhere.rglob("*"), *self.prefix.rglob("*")] if path.is_symlink() or not path.is_dir()], [place] if kind == "link" and name else [])
+                self.assertEqual(
+                    [
+                        path
+                        for path in [*elsewhere.rglob("*"), *self.prefix.rglob("*")]
+                        if path.is_symlink() or not path.is_dir()
+                    ],
+                    [place] if kind == "link" and name else [],
+                )
                 place.unlink() if kind == "link" else shutil.rmtree(place)
                 shutil.rmtree(self.prefix, ignore_errors=True)
         # One's own link is followed.

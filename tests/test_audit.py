@@ -11,8 +11,8 @@ import model  # noqa: E402
 
 from clearing_tools.evidence import audit  # noqa: E402
 
-# A has the label fundamental, B contagion, C is sound with something to spare, D owes nothing, and E has no debts at all. Of its
-# last debt A pays nothing.
+# A has the label fundamental, B contagion, C is sound with something to spare, D owes nothing, and E has no debts at
+# all. Of its last debt A pays nothing.
 BANKS = "name,cash,rule,outside\nA,7,webster,0\nB,1,order,2\nC,20,equal,3\nD,0,adams,0\nE,2,losses,0\n"
 DEBTS = "debtor,creditor,class,claim\nA,B,1,6\nA,C,1,4\nB,C,2,5\nC,D,1,5\nC,A,2,1\nA,D,2,3\n"
 
@@ -60,7 +60,9 @@ def model_of(banks, debts, journal):
     """The network and the raises for the plain model. Only of files that are in form."""
     banks = [model.Bank(name, int(cash), rule, int(outside)) for name, cash, rule, outside in fields_of(banks)]
     places = {bank.name: place for place, bank in enumerate(banks)}
-    debts = [model.Debt(places[one], places[other], int(cls), int(claim)) for one, other, cls, claim in fields_of(debts)]
+    debts = [
+        model.Debt(places[one], places[other], int(cls), int(claim)) for one, other, cls, claim in fields_of(debts)
+    ]
     seat = {debt[:3]: x for x, debt in enumerate(debts)}
     lines = [fields for fields in fields_of(journal) if fields[0] != "rounds"]
     raises = [(int(stamp), seat[places[one], places[other], int(cls)], int(to)) for stamp, one, other, cls, to in lines]
@@ -103,8 +105,13 @@ class Audit(Case):
                 made = self.made_files(*files, "--workers", workers)
                 raises = sum(1 for line in made["journal"].splitlines()) - 2
                 rounds = made["journal"].splitlines()[-1].split(",")[1]
-                told = [f"{raises} raises lawful", "nobody can pay more", "payments same", "defaults same",
-                        f"rounds {rounds}: not checked"]
+                told = [
+                    f"{raises} raises lawful",
+                    "nobody can pay more",
+                    "payments same",
+                    "defaults same",
+                    f"rounds {rounds}: not checked",
+                ]
                 self.assertEqual(self.judged(made), (told, 0), name)
 
     def test_a_generated_network_of_200_holds(self):
@@ -133,7 +140,10 @@ class Audit(Case):
                         self.assertEqual(status, 7, lines)
                         continue
                     net, _ = model_of(files["banks"], files["debts"], files["journal"])
-                    same = [files["payments"] == model.payments_text(net, paid), files["defaults"] == model.defaults_text(net, paid)]
+                    same = [
+                        files["payments"] == model.payments_text(net, paid),
+                        files["defaults"] == model.defaults_text(net, paid),
+                    ]
                     self.assertEqual(lines[2:4] and [line.endswith(" same") for line in lines[2:4]], same)
                     self.assertEqual(status, 0 if all(same) else 1)
                     # What the program prints of the altered files is the same as audit.py has.
@@ -150,8 +160,13 @@ class Audit(Case):
         header, *raises, rounds = made["journal"].splitlines()
         kinds = set()
         for at in range(len(raises)):
-            for changed in ([*raises[:at], *raises[at + 1 :]], [*raises[: at + 1], raises[at], *raises[at + 1 :]], raises[at:],
-                            raises[:at], [*raises[:at], "0" + raises[at][1:], *raises[at + 1 :]]):
+            for changed in (
+                [*raises[:at], *raises[at + 1 :]],
+                [*raises[: at + 1], raises[at], *raises[at + 1 :]],
+                raises[at:],
+                raises[:at],
+                [*raises[:at], "0" + raises[at][1:], *raises[at + 1 :]],
+            ):
                 files = {**made, "journal": "\n".join([header, *changed, rounds]) + "\n"}
                 status, said, _ = self.replayed(files)
                 verdict, wanted, _ = model.verdict(*model_of(BANKS, DEBTS, files["journal"]))
@@ -182,15 +197,26 @@ class Audit(Case):
             self.assertEqual(self.judged({**made, name: text})[1], 0, text)
         raises = made["journal"].splitlines()
         faulty = [
-            ("banks", ""), ("banks", "\n"), ("banks", ",,\n" + BANKS), ("banks", BANKS + "A,0,order,0\n"),
-            ("banks", BANKS + "E,1,order\n"), ("banks", BANKS + '"E""",1,order,0\n'), ("banks", BANKS + "E\x7f,1,order,0\n"),
-            ("banks", BANKS + "é" * 33 + ",1,order,0\n"), ("banks", BANKS + "E,123456789012345678901,order,0\n"),
+            ("banks", ""),
+            ("banks", "\n"),
+            ("banks", ",,\n" + BANKS),
+            ("banks", BANKS + "A,0,order,0\n"),
+            ("banks", BANKS + "E,1,order\n"),
+            ("banks", BANKS + '"E""",1,order,0\n'),
+            ("banks", BANKS + "E\x7f,1,order,0\n"),
+            ("banks", BANKS + "é" * 33 + ",1,order,0\n"),
+            ("banks", BANKS + "E,123456789012345678901,order,0\n"),
             ("banks", BANKS + "".join(f"E{n},0,order,0\n" for n in range(997))),
-            ("debts", DEBTS + "A,A,1,1\n"), ("debts", DEBTS + "A,C,1,1\n"), ("debts", DEBTS + "D,A,1," + "1" * 20 + "\n"),
+            ("debts", DEBTS + "A,A,1,1\n"),
+            ("debts", DEBTS + "A,C,1,1\n"),
+            ("debts", DEBTS + "D,A,1," + "1" * 20 + "\n"),
             ("debts", DEBTS + "".join(f"D,{to},{rank},1000000\n" for to in "ABC" for rank in "3456")),
-            ("debts", DEBTS + "x" * 8_400_000), ("journal", "\n".join([*raises[:-1], "rounds,1", raises[-1]])),
-            ("journal", "\n".join([raises[0], "2,A,B,1,6", "1,A,C,1,4", "x"])), ("journal", raises[0] + "\nrounds,,\n"),
-            ("journal", raises[0] + "\n1,A,D,1,1\n"), ("journal", raises[0] + "\n1,A,B,1\n"),
+            ("debts", DEBTS + "x" * 8_400_000),
+            ("journal", "\n".join([*raises[:-1], "rounds,1", raises[-1]])),
+            ("journal", "\n".join([raises[0], "2,A,B,1,6", "1,A,C,1,4", "x"])),
+            ("journal", raises[0] + "\nrounds,,\n"),
+            ("journal", raises[0] + "\n1,A,D,1,1\n"),
+            ("journal", raises[0] + "\n1,A,B,1\n"),
         ]
         for name, text in faulty:
             lines, status = self.judged({**made, name: text})
@@ -202,8 +228,10 @@ class Audit(Case):
         words = self.words(made)
         told = "7 raises lawful\nnobody can pay more\npayments same\ndefaults same\nrounds 3: not checked\n"
         self.assertEqual(self.made("clearing-audit", *words), told)
-        self.assertEqual(self.made("clearing-audit", *words[:6]), told.replace("payments same", "payments: none given").replace(
-            "defaults same", "defaults: none given"))
+        self.assertEqual(
+            self.made("clearing-audit", *words[:6]),
+            told.replace("payments same", "payments: none given").replace("defaults same", "defaults: none given"),
+        )
         self.refused("clearing-audit", 3, "cannot read", *words[:5], self.folder / "none.csv")
         self.refused("clearing-audit", 2, "--journal", *words[:4])
         self.file("debts.csv", DEBTS.replace("B,C,2", "B,X,2"))
@@ -212,11 +240,15 @@ class Audit(Case):
         self.file("payments.csv", made["payments"].replace("A,B,1,6,5", "A,B,1,6,6"))
         done = tool("clearing-audit", *words)
         self.assertEqual((done.returncode, done.stderr), (1, ""))
-        self.assertIn("payments differ: line 2 is 'A,B,1,6,6', and by the journal 'A,B,1,6,5'\ndefaults same\n", done.stdout)
+        self.assertIn(
+            "payments differ: line 2 is 'A,B,1,6,6', and by the journal 'A,B,1,6,5'\ndefaults same\n", done.stdout
+        )
         self.file("journal.csv", made["journal"].replace("1,A,B,1,4", "1,A,B,1,5"))
         done = tool("clearing-audit", *words)
-        self.assertEqual((done.returncode, done.stdout.splitlines()[0]),
-                         (7, "raise 1 is not lawful: 0 is paid, and its debtor may pay 4"))
+        self.assertEqual(
+            (done.returncode, done.stdout.splitlines()[0]),
+            (7, "raise 1 is not lawful: 0 is paid, and its debtor may pay 4"),
+        )
 
     def test_a_division_is_taken_on_where_an_estate_changed(self):
         """Many raises; bench/tools.py times a million."""
@@ -248,9 +280,13 @@ class Audit(Case):
 
 
 def small_network(chance, banks, debts, claims, cash, outside):
-    """A network with banks of all six rules, debts in classes 1 to 3 with claims of up to one of these, and outside debts."""
+    """A network with banks of all six rules, debts in classes 1 to 3 with claims of up to one of these, and outside
+    debts."""
     rules = [model.RULES[at % 6] for at in range(banks)]
-    rows = [audit.Bank(b"N%d" % at, chance.randrange(cash), rule, chance.randrange(outside)) for at, rule in enumerate(rules)]
+    rows = [
+        audit.Bank(b"N%d" % at, chance.randrange(cash), rule, chance.randrange(outside))
+        for at, rule in enumerate(rules)
+    ]
     pairs = {}
     for _ in range(debts):
         one, other = chance.sample(range(banks), 2)
@@ -260,7 +296,13 @@ def small_network(chance, banks, debts, claims, cash, outside):
 
 def raises_of(net, leaps=True):
     """A journal in which all banks pay in turn, as much as they may, until nobody can pay more."""
-    dividing, paid, has, raises, stamp = audit.divisions(net, leaps), {}, [bank.cash - bank.outside for bank in net.banks], [], 0
+    dividing, paid, has, raises, stamp = (
+        audit.divisions(net, leaps),
+        {},
+        [bank.cash - bank.outside for bank in net.banks],
+        [],
+        0,
+    )
     while True:
         stamp, before = stamp + 1, len(raises)
         for i, division in enumerate(dividing):
@@ -282,13 +324,18 @@ def leaping(rule, debts):
 
 
 def first_difference(seed, many=300):
-    """Divides by leaps and one by one, by each rule in turn, up to more and more units; the first case in which the two differ."""
+    """Divides by leaps and one by one, by each rule in turn, up to more and more units; the first case in which the
+    two differ."""
     chance = random.Random(seed)
     for case in range(many):
         rule = model.RULES[case % 6]
         claims = [chance.randint(0, chance.choice([1, 4, 30, 200])) for _ in range(chance.randint(1, 7))]
         debts = [(3 * x, audit.Debt(0, 1, chance.choice([1, 1, 1, 2, 9]), claim)) for x, claim in enumerate(claims)]
-        plain, quick, usual = audit.Division(rule, debts, leaps=False), leaping(rule, debts), audit.Division(rule, debts)
+        plain, quick, usual = (
+            audit.Division(rule, debts, leaps=False),
+            leaping(rule, debts),
+            audit.Division(rule, debts),
+        )
         units = 0
         while units <= sum(claims) + 1:
             units += chance.choice([1, 2, 5, max(1, sum(claims) // 3)])
@@ -311,20 +358,32 @@ class TwoWays(Case):
             claims = tuple(chance.randint(0, 9) for _ in range(chance.randint(1, 5)))
             classes = tuple(chance.choice([1, 1, 2]) for _ in claims)
             for units in range(sum(claims) + 2):
-                division = audit.Division(rule, [(x, audit.Debt(0, 1, *pair)) for x, pair in enumerate(zip(classes, claims))], False)
+                division = audit.Division(
+                    rule, [(x, audit.Debt(0, 1, *pair)) for x, pair in enumerate(zip(classes, claims))], False
+                )
                 division.up_to(units)
-                self.assertEqual(list(division.given.values()), model.share(rule, claims, classes, units), (rule, claims))
+                self.assertEqual(
+                    list(division.given.values()), model.share(rule, claims, classes, units), (rule, claims)
+                )
         model.forget()
 
     def test_a_wrong_leap_is_found(self):
         level, webster = audit.below_equal, audit.BELOW["webster"]
-        raised = lambda claims, units: [share + (share < claim) for share, claim in zip(level(claims, units), claims)]  # noqa: E731
+        raised = lambda claims, units: [
+            share + (share < claim) for share, claim in zip(level(claims, units), claims)
+        ]  # noqa: E731
         wrong = {
             "equal": [raised, lambda claims, units: [units // len(claims)] * len(claims)],
-            "losses": [level, lambda claims, units: [max(0, c - p) for c, p in zip(claims, level(claims, sum(claims) - units))]],
+            "losses": [
+                level,
+                lambda claims, units: [max(0, c - p) for c, p in zip(claims, level(claims, sum(claims) - units))],
+            ],
             "jefferson": [audit.below_divisor(1, 2), audit.below_divisor(0, 1)],
             "webster": [audit.below_divisor(1, 1), lambda claims, units: webster(claims[::-1], units)],
-            "adams": [audit.below_divisor(1, 1), lambda claims, units: [units * claim // sum(claims) for claim in claims]],
+            "adams": [
+                audit.below_divisor(1, 1),
+                lambda claims, units: [units * claim // sum(claims) for claim in claims],
+            ],
         }
         self.assertEqual(wrong.keys(), audit.BELOW.keys())
         for rule, below in [(rule, below) for rule in wrong for below in wrong[rule]]:
@@ -336,24 +395,42 @@ class TwoWays(Case):
         kinds = set()
         for seed in range(60):
             chance = random.Random(seed)
-            net = small_network(chance, banks=chance.randint(2, 12), debts=chance.randint(1, 40), claims=[3, 60, 400],
-                                cash=chance.choice([5, 300]), outside=chance.choice([1, 100]))
+            net = small_network(
+                chance,
+                banks=chance.randint(2, 12),
+                debts=chance.randint(1, 40),
+                claims=[3, 60, 400],
+                cash=chance.choice([5, 300]),
+                outside=chance.choice([1, 100]),
+            )
             raises = raises_of(net)
             self.assertEqual(raises, raises_of(net, leaps=False))
-            journals = [raises, raises[:-1], *([*raises[:at], (stamp, x, to + more), *raises[at + 1 :]]
-                        for at, (stamp, x, to) in itertools.islice(enumerate(raises), 0, None, 7) for more in (-1, 1))]
+            journals = [
+                raises,
+                raises[:-1],
+                *(
+                    [*raises[:at], (stamp, x, to + more), *raises[at + 1 :]]
+                    for at, (stamp, x, to) in itertools.islice(enumerate(raises), 0, None, 7)
+                    for more in (-1, 1)
+                ),
+            ]
             for journal in journals:
                 quick, plain = audit.follow(net, journal), audit.follow(net, journal, leaps=False)
                 self.assertEqual(quick, plain)
                 kinds.add(quick.kind)
-            verdict, _, paid = model.verdict(model.Net([model.Bank(b.name.decode(), *b[1:]) for b in net.banks],
-                                                       [model.Debt(*debt) for debt in net.debts]), raises)
+            verdict, _, paid = model.verdict(
+                model.Net(
+                    [model.Bank(b.name.decode(), *b[1:]) for b in net.banks], [model.Debt(*debt) for debt in net.debts]
+                ),
+                raises,
+            )
             self.assertEqual((verdict, paid), (f"lawful,{len(raises)}\n", audit.follow(net, raises).paid))
         self.assertLessEqual({"lawful", "unlawful", "unfinished"}, kinds)
 
 
-# What neither checker can notice. Rules that share in the same way here, or of a bank that pays all or has one debt; stamps that do
-# not fall; an amount that a later raise of the debt passes, where it stays lawful; the number of rounds.
+# What neither checker can notice. Rules that share in the same way here, or of a bank that pays all or has one debt;
+# stamps that do not fall; an amount that a later raise of the debt passes, where it stays lawful; the number of
+# rounds.
 UNNOTICED = {
     *(("banks", 1, 2, rule) for rule in ("jefferson", "adams")),
     *(("banks", row, 2, rule) for row in (2, 3, 4, 5) for rule in model.RULES),
@@ -362,9 +439,9 @@ UNNOTICED = {
     *(("journal", 8, 1, rounds) for rounds in ("4", "999999")),
 } - {("banks", 2, 2, "order"), ("banks", 3, 2, "equal"), ("banks", 4, 2, "adams"), ("banks", 5, 2, "losses")}
 
-# What a replay alone does not notice, but the tables do: the tables have these numbers, and the division does not use them. Cash and
-# outside claims of a bank that pays all nevertheless; the claim of a bank that divides as before; any field of a debt that is paid
-# nothing; the name of a bank without debts.
+# What a replay alone does not notice, but the tables do: the tables have these numbers, and the division does not use
+# them. Cash and outside claims of a bank that pays all nevertheless; the claim of a bank that divides as before; any
+# field of a debt that is paid nothing; the name of a bank without debts.
 UNNOTICED_BY_REPLAY = {
     *(("banks", 3, 1, cash) for cash in ("19", "21")),
     *(("banks", 3, 3, outside) for outside in ("2", "4")),

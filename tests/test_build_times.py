@@ -9,11 +9,14 @@ from common import ROOT, Case
 
 TOOLCHAIN = """#!/bin/sh
 if [ "$*" = doc ]; then echo "$KIT/START-HERE.md"; exit; fi
-if [ "$*" = "check --jobs 1" ] && [ -e "$KIT/../rattle-kept/work" ]; then echo "rt: begins with what a check kept in /elsewhere"; fi
+if [ "$*" = "check --jobs 1" ] && [ -e "$KIT/../rattle-kept/work" ]; then
+    echo "rt: begins with what a check kept in /elsewhere"
+fi
 echo "$(basename "$PWD"): $*" >>"$CALLS"
 if [ "$*" = "check --jobs 1" ]; then
     mkdir -p out/incremental/kept
-    for part in Rule:10 walk.first.Lts:12 walk.first.Proof.decls:15 walk.second.Lts.decls:16 contracts.walk.second.Key:18; do
+    parts="Rule:10 walk.first.Lts:12 walk.first.Proof.decls:15 walk.second.Lts.decls:16 contracts.walk.second.Key:18"
+    for part in $parts; do
         touch -d "@$((1000000000 + ${part#*:}))" "out/incremental/kept/Rattle-low-proofs.${part%:*}.oantt"
     done
 fi
@@ -35,23 +38,47 @@ class BuildTimes(Case):
         for name in ("top", "low", "beside"):
             (self.root / "crates" / name / "src").mkdir(parents=True)
             (self.root / "crates" / name / "out").mkdir()
-            (self.root / "crates" / name / "src/lib.rt").write_text("#[test]\nfn shows() {}\n" if name == "top" else "\n")
+            (self.root / "crates" / name / "src/lib.rt").write_text(
+                "#[test]\nfn shows() {}\n" if name == "top" else "\n"
+            )
 
     def run_with(self, *words, faulty="", **more):
         self.calls = self.file("calls", "")
-        environment = {**os.environ, "CALLS": str(self.calls), "FAULTY": faulty, "KIT": str(self.folder / "kits/kit"),
-                       "PATH": f"{self.folder}/bin:/usr/bin:/bin", **more}
-        done = subprocess.run([str(self.root / "bench/build.sh"), *words], env=environment, stdin=subprocess.DEVNULL,
-                              capture_output=True, encoding="utf-8")
+        environment = {
+            **os.environ,
+            "CALLS": str(self.calls),
+            "FAULTY": faulty,
+            "KIT": str(self.folder / "kits/kit"),
+            "PATH": f"{self.folder}/bin:/usr/bin:/bin",
+            **more,
+        }
+        done = subprocess.run(
+            [str(self.root / "bench/build.sh"), *words],
+            env=environment,
+            stdin=subprocess.DEVNULL,
+            capture_output=True,
+            encoding="utf-8",
+        )
         return done, self.calls.read_text().splitlines()
 
     def test_crates_are_measured_lowest_first_on_a_copy(self):
         done, calls = self.run_with("--tests")
         self.assertEqual((done.returncode, done.stderr), (0, ""))
-        self.assertEqual(calls, ["low: check --jobs 1", "low: lib", "top: check --jobs 1", "top: check --test --jobs 1", "beside: check --jobs 1"])
+        self.assertEqual(
+            calls,
+            [
+                "low: check --jobs 1",
+                "low: lib",
+                "top: check --jobs 1",
+                "top: check --test --jobs 1",
+                "beside: check --jobs 1",
+            ],
+        )
         lines, _, table = done.stdout.partition("\n\n")
-        self.assertEqual([line.split()[:2] for line in lines.splitlines()[1:-1]],
-                         [["low", "proofs"], ["low", "library"], ["top", "proofs"], ["top", "tests"], ["beside", "proofs"]])
+        self.assertEqual(
+            [line.split()[:2] for line in lines.splitlines()[1:-1]],
+            [["low", "proofs"], ["low", "library"], ["top", "proofs"], ["top", "tests"], ["beside", "proofs"]],
+        )
         self.assertEqual(lines.splitlines()[-1].split()[0], "all")
         self.assertEqual([line.split()[0] for line in table.splitlines()], ["minutes", "low", "top", "beside", "all"])
         self.assertNotIn(str(self.root), (self.folder / "calls.places").read_text())
@@ -59,7 +86,11 @@ class BuildTimes(Case):
     def test_edits_are_a_column_of_the_table(self):
         (self.root / "crates/top/must-fail").mkdir()
         (self.root / "crates/top/must-fail/one.edit").write_text("file: src/lib.rt\nold: shows\nnew: hides\n")
-        spent = TOOLCHAIN + 'if [ "$1" = must-fail ]; then [ -e "crates/$2/must-fail/one.edit" ] && awk "BEGIN { while (i++ < 60000000) ; }"; fi\n'
+        spent = (
+            TOOLCHAIN
+            + 'if [ "$1" = must-fail ]; then [ -e "crates/$2/must-fail/one.edit" ] && awk "BEGIN { while (i++ <'
+            ' 60000000) ; }"; fi\n'
+        )
         self.file("bin/rt", spent).chmod(0o755)
         done, calls = self.run_with("--edits", "top")
         self.assertEqual((done.returncode, done.stderr), (0, ""))
@@ -78,7 +109,9 @@ class BuildTimes(Case):
     def test_the_slowest_parts_are_told(self):
         done, _ = self.run_with("--slow", "2", "low")
         self.assertEqual((done.returncode, done.stderr), (0, ""))
-        self.assertEqual([line.split() for line in done.stdout.splitlines()[2:4]], [["walk::first", "5.0"], ["walk::second", "3.0"]])
+        self.assertEqual(
+            [line.split() for line in done.stdout.splitlines()[2:4]], [["walk::first", "5.0"], ["walk::second", "3.0"]]
+        )
         self.assertEqual(len(done.stdout.splitlines()), 6)
         for words in (["--slow"], ["--slow", "low"]):
             self.assertEqual(self.run_with(*words)[0].returncode, 2)
@@ -90,13 +123,17 @@ class BuildTimes(Case):
         self.assertEqual(done.stdout.splitlines()[1].split()[:2], ["low", "proofs*"])
         self.assertIn("\n*: begun with what a check in another checkout kept", done.stdout)
 
-    @unittest.skipIf(subprocess.run(["unshare", "--map-root-user", "--mount", "true"], capture_output=True).returncode,
-                     "mounts of one's own are not allowed here")
+    @unittest.skipIf(
+        subprocess.run(["unshare", "--map-root-user", "--mount", "true"], capture_output=True).returncode,
+        "mounts of one's own are not allowed here",
+    )
     def test_kept_work_is_hidden(self):
         for name in ("kit", "rattle-kept/work"):
             (self.folder / "kits" / name).mkdir(parents=True)
         done, _ = self.run_with("low")
-        self.assertEqual((done.returncode, done.stdout.splitlines()[1].split()[:2]), (0, ["low", "proofs"]), done.stderr)
+        self.assertEqual(
+            (done.returncode, done.stdout.splitlines()[1].split()[:2]), (0, ["low", "proofs"]), done.stderr
+        )
         self.assertNotIn("*", done.stdout)
         self.assertTrue((self.folder / "kits/rattle-kept/work").is_dir())
 

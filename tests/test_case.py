@@ -210,7 +210,10 @@ class Refused(Folders):
         for what, made in (
             ("sources is a link", lambda place: os.symlink(other, place)),
             ("sources is no folder", lambda place: place.write_text("")),
-            ("sources/a.csv is a link", lambda place: (place.mkdir(), os.symlink(other / "thesis.csv", place / "a.csv"))),
+            (
+                "sources/a.csv is a link",
+                lambda place: (place.mkdir(), os.symlink(other / "thesis.csv", place / "a.csv")),
+            ),
             ("sources/a is a link", lambda place: (place.mkdir(), os.symlink(other, place / "a"))),
             ("sources/a is no file", lambda place: (place / "a").mkdir(parents=True)),
             ("sources/a is no file", lambda place: (place.mkdir(), os.mkfifo(place / "a"))),
@@ -304,7 +307,9 @@ class Writing(Folders):
         made.write(self.place, sources=sheets)
 
         def files(place):
-            return {path.relative_to(place).as_posix(): path.read_bytes() for path in place.rglob("*") if path.is_file()}
+            return {
+                path.relative_to(place).as_posix(): path.read_bytes() for path in place.rglob("*") if path.is_file()
+            }
 
         before = files(self.place)
         self.assertEqual({name for name in before if "/" in name}, {f"sources/{name}" for name in sheets})

@@ -90,7 +90,9 @@ class Compared(Case):
         place = self.folder / "one"
         cc.Case(one_unit(), labels=[cc.Label("B", full="Beta")]).write(place)
         rows = list(
-            csv.DictReader(io.StringIO(self.made("clearing-case", "compare", place, place, "--page", self.folder / "p")))
+            csv.DictReader(
+                io.StringIO(self.made("clearing-case", "compare", place, place, "--page", self.folder / "p"))
+            )
         )
         self.assertEqual([row["note"] for row in rows], ["", "one unit decides", "one unit decides"])
         page = (self.folder / "p").read_text()
@@ -242,7 +244,11 @@ class Standing(Case):
 
     def test_a_unit_half_as_large_is_tried_by_the_wide_limits_where_the_standard_ones_have_no_room(self):
         # A pays B 2 and C 1 of 2 each. In units of half the worth it pays each 3 of 4, and B owes 4.
-        banks = [("A", 3, "webster"), *((name, 0, "order") for name in "BCD"), *((name, 10**7, "order") for name in "EF")]
+        banks = [
+            ("A", 3, "webster"),
+            *((name, 0, "order") for name in "BCD"),
+            *((name, 10**7, "order") for name in "EF"),
+        ]
         debts = [("A", "B", 1, 2), ("A", "C", 1, 2), ("A", "D", 2, 10), ("B", "D", 1, 2)]
         large = [(*pair, class_, 500_000) for class_ in range(1, 10) for pair in (("E", "F"), ("F", "E"), ("E", "C"))]
         needed = ((9, None, "standard"), (18, None, "wide"), (18, "standard", "wide"), (24, None, "wide"))

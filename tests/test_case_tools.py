@@ -76,20 +76,26 @@ class Imported(Case):
         self.assertEqual((str(case.unit), str(case.amount(13))), ("500", "6500"))
         self.assertIn(cc.ImportLine("debts in the sheet", 6, "24500"), case.summary.read)
         for word in ("0", "-1", "x"):
-            self.refused("clearing-from-matrix", 2, "is not a number above 0", "m.csv", "--amounts-in", word, "--case", "x")
+            self.refused(
+                "clearing-from-matrix", 2, "is not a number above 0", "m.csv", "--amounts-in", word, "--case", "x"
+            )
 
     def test_the_two_files_are_those_without_a_case(self):
         self.make()
         self.told(
-            "clearing-from-matrix", self.folder / "m.csv", *PLAIN, "--banks", self.folder / "b", "--debts", self.folder / "d"
+            "clearing-from-matrix",
+            self.folder / "m.csv",
+            *PLAIN,
+            "--banks",
+            self.folder / "b",
+            "--debts",
+            self.folder / "d",
         )
         self.assertEqual((self.place / "banks.csv").read_bytes(), (self.folder / "b").read_bytes())
         self.assertEqual((self.place / "debts.csv").read_bytes(), (self.folder / "d").read_bytes())
 
     def test_names_that_the_program_refuses_get_codes_with_full_names(self):
-        self.make(
-            text=MATRIX.replace("A,0,", '"A, Inc.",0,').replace(",A,B", ',"A, Inc.",B'),
-        )
+        self.make(text=MATRIX.replace("A,0,", '"A, Inc.",0,').replace(",A,B", ',"A, Inc.",B'))
         self.assertEqual(cc.Case.read(self.place).labels["A Inc."].full, "Alpha, S.A.")
 
     def test_a_case_is_written_over_where_that_was_said_alone_and_keeps_its_scenarios(self):
@@ -208,8 +214,12 @@ class Imported(Case):
             "--case",
             self.place,
         )
-        self.refused("clearing-from-matrix", 2, "'2026-02-30' is no date", sheet, "--as-of=2026-02-30", "--case", self.place)
-        self.refused("clearing-from-matrix", 2, "'euro' is not a currency", sheet, "--currency=euro", "--case", self.place)
+        self.refused(
+            "clearing-from-matrix", 2, "'2026-02-30' is no date", sheet, "--as-of=2026-02-30", "--case", self.place
+        )
+        self.refused(
+            "clearing-from-matrix", 2, "'euro' is not a currency", sheet, "--currency=euro", "--case", self.place
+        )
 
 
 class Taken(Case):
@@ -306,7 +316,9 @@ class Taken(Case):
 
     def test_no_file_of_a_case_is_written_over(self):
         self.refused("clearing-breaking", 2, "would be written over", self.place, "--output", self.place / "labels.csv")
-        self.refused("clearing-breaking", 2, "would be written over", self.place, "--output", self.place / "datapackage.json")
+        self.refused(
+            "clearing-breaking", 2, "would be written over", self.place, "--output", self.place / "datapackage.json"
+        )
 
     def test_amounts_are_those_of_the_unit(self):
         text = self.file("d.csv", self.printed("clear", *self.FILES))

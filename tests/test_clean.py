@@ -32,9 +32,20 @@ class Clean(Case):
             (self.root / path).write_text("")
 
     def ran(self, *words, **more):
-        environment = {"PATH": "/usr/bin:/bin", "HOME": str(self.folder), "XDG_CACHE_HOME": str(self.folder / "cache"), **more}
-        return subprocess.run([str(self.root / "tools/dev/clean.sh"), *words], env=environment, cwd=self.folder, stdin=subprocess.DEVNULL,
-                              capture_output=True, encoding="utf-8")
+        environment = {
+            "PATH": "/usr/bin:/bin",
+            "HOME": str(self.folder),
+            "XDG_CACHE_HOME": str(self.folder / "cache"),
+            **more,
+        }
+        return subprocess.run(
+            [str(self.root / "tools/dev/clean.sh"), *words],
+            env=environment,
+            cwd=self.folder,
+            stdin=subprocess.DEVNULL,
+            capture_output=True,
+            encoding="utf-8",
+        )
 
     def files(self):
         return {str(path.relative_to(self.folder)) for path in self.folder.rglob("*")}
@@ -43,7 +54,11 @@ class Clean(Case):
         before = self.files()
         done = self.ran()
         self.assertEqual((done.returncode, done.stderr), (0, ""))
-        gone = {f"a repository/crates/{name}/out{rest}" for name in ("low", "clear_main") for rest in ("", "/rlib", "/rlib/stamp")}
+        gone = {
+            f"a repository/crates/{name}/out{rest}"
+            for name in ("low", "clear_main")
+            for rest in ("", "/rlib", "/rlib/stamp")
+        }
         gone |= {f"cache/clearing-first-look{rest}" for rest in ("", "/sum", "/sum/first-look")}
         self.assertEqual(before - self.files(), gone)
         self.assertEqual(self.files() - before, set())
@@ -97,7 +112,9 @@ class Clean(Case):
         for lock in (self.root / "crates/clear_main/out/build.lock", self.kept / "lock"):
             lock.write_text("")
             before = self.files()
-            holding = subprocess.Popen(["flock", str(lock), "sh", "-c", "echo; read line"], stdin=subprocess.PIPE, stdout=subprocess.PIPE)
+            holding = subprocess.Popen(
+                ["flock", str(lock), "sh", "-c", "echo; read line"], stdin=subprocess.PIPE, stdout=subprocess.PIPE
+            )
             holding.stdout.readline()
             done = self.ran()
             holding.communicate(b"\n")
@@ -108,7 +125,9 @@ class Clean(Case):
         before = self.files()
         for words in (["--force"], ["--dry-run", "low"], [""], [str(self.folder)]):
             done = self.ran(*words)
-            self.assertEqual((done.returncode, done.stdout, done.stderr), (2, "", "clean.sh: error: the only word is --dry-run\n"))
+            self.assertEqual(
+                (done.returncode, done.stdout, done.stderr), (2, "", "clean.sh: error: the only word is --dry-run\n")
+            )
         self.assertEqual(self.files(), before)
         self.assertIn("tools/dev/clean.sh [--dry-run]", self.ran("--help").stdout)
 

@@ -43,8 +43,12 @@ class Refused(Case):
         ]
         for table, row, kind, record in banks:
             with self.subTest(kind=kind, row=row):
-                self.assertEqual(self.refused(Network(table, [], limits="standard").check), ("banks", row, kind, record))
-        claims = [(debtor, creditor, 1, 10**6) for debtor, creditor in zip(["B0"] * 11, [f"B{n}" for n in range(1, 12)])]
+                self.assertEqual(
+                    self.refused(Network(table, [], limits="standard").check), ("banks", row, kind, record)
+                )
+        claims = [
+            (debtor, creditor, 1, 10**6) for debtor, creditor in zip(["B0"] * 11, [f"B{n}" for n in range(1, 12)])
+        ]
         pairs = [(f"B{n // 200}", f"B{n % 200 + 1 if n % 200 >= n // 200 else n % 200}", 1, 0) for n in range(20_001)]
         debts = [
             (A_B, [("A", "C", 1, 1)], 1, "unknown bank"),
@@ -58,7 +62,9 @@ class Refused(Case):
         for table, debts, row, kind in debts:
             with self.subTest(kind=kind):
                 record = tuple(map(str, debts[row - 1]))
-                self.assertEqual(self.refused(Network(table, debts, limits="standard").check), ("debts", row, kind, record))
+                self.assertEqual(
+                    self.refused(Network(table, debts, limits="standard").check), ("debts", row, kind, record)
+                )
         raises = [
             ([(1, "A", "B", 1, 7), (2, "A", "C", 1, 7)], 2, "unknown bank"),
             ([(1, "B", "A", 1, 7)], 1, "unknown debt"),
@@ -76,7 +82,7 @@ class Refused(Case):
         for text, row, kind, record in [
             ("", 0, "header", None),
             ("Name,cash,rule\n", 0, "header", ("Name", "cash", "rule")),
-            ("name,cash,rule\n\n,,\r\rA,7,order\n\"B\n\",7,order\n", 3, "name", ("B\n", "7", "order")),
+            ('name,cash,rule\n\n,,\r\rA,7,order\n"B\n",7,order\n', 3, "name", ("B\n", "7", "order")),
             ("name,cash,rule\nA, 7x\t,order\n", 1, "number", ("A", "7x", "order")),
             ("name,cash,rule\nA,7\n", 1, "fields", ("A", "7")),
             ("name,cash,rule\nA,7,order\n" + "x" * 8_388_608, 0, "file size", None),
@@ -91,14 +97,23 @@ class Refused(Case):
         net = Network(A_B, A_TO_B)
         good = Scenario("good")
         for wrong, kind in [
-            (Scenario("x", 1001), "limit"), (Scenario("x", -1), "limit"), (Scenario("", 1), "name"),
-            (Scenario("x", losses={"C": 1}), "unknown bank"), (Scenario("x", losses=[("A", 1), ("A", 1)]), "double bank"),
-            (Scenario("x", losses={"A": 10**12 + 1}), "limit"), (Scenario("x\ny"), "name"), (Scenario('"'), "name"),
+            (Scenario("x", 1001), "limit"),
+            (Scenario("x", -1), "limit"),
+            (Scenario("", 1), "name"),
+            (Scenario("x", losses={"C": 1}), "unknown bank"),
+            (Scenario("x", losses=[("A", 1), ("A", 1)]), "double bank"),
+            (Scenario("x", losses={"A": 10**12 + 1}), "limit"),
+            (Scenario("x\ny"), "name"),
+            (Scenario('"'), "name"),
         ]:
             with self.subTest(wrong=wrong):
                 self.assertEqual(self.refused(lambda: net.stress([good, wrong])), ("scenarios", 2, kind, wrong))
         self.assertEqual(self.refused(lambda: net.stress([good] * 101)), ("scenarios", 101, "too many", good))
-        for document, row, kind in [("scenario = 3\n", 0, "shape"), ("[[scenario\n", 0, "toml"), ("[[scenario]]\n", 1, "shape")]:
+        for document, row, kind in [
+            ("scenario = 3\n", 0, "shape"),
+            ("[[scenario\n", 0, "toml"),
+            ("[[scenario]]\n", 1, "shape"),
+        ]:
             with self.subTest(document=document):
                 path = self.file("s.toml", document)
                 self.assertEqual(self.refused(lambda: net.stress(path)), ("scenarios", row, kind, None))
@@ -125,8 +140,14 @@ class Statuses(Case):
         return caught.exception
 
     def test_2_words_that_are_not_understood(self):
-        for call in (lambda net: net.clear(workers=0), lambda net: net.costs(1001), lambda net: net.defaults(sweeps="x"),
-                     lambda net: net.rescue("-X"), lambda net: net.rescue(""), lambda net: cc.generate(0, 0, 0)):
+        for call in (
+            lambda net: net.clear(workers=0),
+            lambda net: net.costs(1001),
+            lambda net: net.defaults(sweeps="x"),
+            lambda net: net.rescue("-X"),
+            lambda net: net.rescue(""),
+            lambda net: cc.generate(0, 0, 0),
+        ):
             self.assertEqual(self.raised(cc.UsageError, call=call).status, 2)
         self.assertIn("--workers", self.raised(cc.UsageError, call=lambda net: net.clear(workers=0)).words)
         with self.assertRaises(cc.TableError):
@@ -154,7 +175,7 @@ class Statuses(Case):
         self.raised(cc.TextError, "exit 0")
         self.raised(cc.TextError, "echo hello")
         self.raised(cc.TextError, "printf 'lawful,0\\n\\ndebtor,creditor,class,claim,paid\\n'")
-        text = 'debtor,creditor,class,claim,paid\\nA,B,1,10,7'
+        text = "debtor,creditor,class,claim,paid\\nA,B,1,10,7"
         self.raised(cc.TextError, f"printf '{text}'")
 
     def without_program(self, net):
@@ -170,7 +191,7 @@ class Statuses(Case):
             Network(A_B, A_TO_B).clear()
 
     def test_an_interrupt_ends_the_run(self):
-        self.program(f'echo $$ > {self.folder}/pid; exec sleep 60')
+        self.program(f"echo $$ > {self.folder}/pid; exec sleep 60")
 
         def interrupt():
             while not (self.folder / "pid").exists() or not (self.folder / "pid").read_text().strip():
@@ -188,8 +209,10 @@ class Statuses(Case):
             os.kill(int((self.folder / "pid").read_text()), 0)
 
     def test_much_text_on_both_streams(self):
-        self.program('i=0; while [ $i -lt 3000 ]; do echo "a message that fills the pipe of messages, again and again" >&2; '
-                     'i=$((i + 1)); done; echo "debtor,creditor,class,claim,paid"')
+        self.program(
+            'i=0; while [ $i -lt 3000 ]; do echo "a message that fills the pipe of messages, again and again" >&2; '
+            'i=$((i + 1)); done; echo "debtor,creditor,class,claim,paid"'
+        )
         self.assertEqual(len(Network(A_B, []).clear().payments), 0)
 
     def test_missing_packages_are_named(self):
@@ -201,15 +224,27 @@ class Statuses(Case):
 class OtherProcesses(Case):
     def test_exceptions_networks_and_results_go_to_other_processes(self):
         faults = [
-            cc.RefusedError("banks", 3, "rule", 5, ("A", "7", "none")), cc.TableError("debts", 2, "claim", 7.5, "not whole"),
-            cc.UsageError(("clear", "--workers")), cc.UnreadableError("x"), cc.OutputError(), cc.OutOfMemoryError(),
-            cc.NoProgramError("none", 8), cc.StatusError(-9, "gone"), cc.TextError(3, "no"), cc.MissingPackageError("x", "y"),
+            cc.RefusedError("banks", 3, "rule", 5, ("A", "7", "none")),
+            cc.TableError("debts", 2, "claim", 7.5, "not whole"),
+            cc.UsageError(("clear", "--workers")),
+            cc.UnreadableError("x"),
+            cc.OutputError(),
+            cc.OutOfMemoryError(),
+            cc.NoProgramError("none", 8),
+            cc.StatusError(-9, "gone"),
+            cc.TextError(3, "no"),
+            cc.MissingPackageError("x", "y"),
         ]
         for fault in faults:
             again = pickle.loads(pickle.dumps(fault))
             self.assertEqual((type(again), str(again), vars(again)), (type(fault), str(fault), vars(fault)))
         net = Network(A_B, A_TO_B)
-        for one in (net.clear(journal=True), net.stress([Scenario("x", 3, {"A": 1})]), Scenario("x", 3, {"A": 1}), net.banks):
+        for one in (
+            net.clear(journal=True),
+            net.stress([Scenario("x", 3, {"A": 1})]),
+            Scenario("x", 3, {"A": 1}),
+            net.banks,
+        ):
             self.assertEqual(pickle.loads(pickle.dumps(one)), one)
         self.assertEqual(pickle.loads(pickle.dumps(net)).clear(), net.clear())
 

@@ -12,7 +12,11 @@ from common import ROOT, Case, needs_packages
 import clearing_client
 
 PAGE = ROOT / "docs" / "PYTHON.md"
-PUBLIC = [name for name, one in vars(clearing_client).items() if not name.startswith("_") and not isinstance(one, types.ModuleType)]
+PUBLIC = [
+    name
+    for name, one in vars(clearing_client).items()
+    if not name.startswith("_") and not isinstance(one, types.ModuleType)
+]
 
 
 class Guide(Case):
@@ -49,8 +53,12 @@ class Guide(Case):
     def test_the_page_names_every_exception_and_result(self):
         text = PAGE.read_text(encoding="utf-8")
         for name in PUBLIC:
-            if name.endswith("Error") or isinstance(getattr(clearing_client, name), type) and issubclass(
-                    getattr(clearing_client, name), clearing_client.Result) and name not in ("Result", "Journal", "Converted"):
+            if (
+                name.endswith("Error")
+                or isinstance(getattr(clearing_client, name), type)
+                and issubclass(getattr(clearing_client, name), clearing_client.Result)
+                and name not in ("Result", "Journal", "Converted")
+            ):
                 self.assertIn(f"`{name}", text)
 
 

@@ -41,10 +41,12 @@ DISTRIBUTIONS = {"docx": "python-docx", "markdown_it": "markdown-it-py", "markup
 
 
 def imported(path: pathlib.Path) -> Iterator[str]:
-    """The packages that a file of Python imports, also those that it names in a call that imports or wants them. What stands there for
-    the check of types alone is not imported."""
+    """The packages that a file of Python imports, also those that it names in a call that imports or wants them. What
+    stands there for the check of types alone is not imported."""
     tree = ast.parse(path.read_bytes())
-    tree.body = [node for node in tree.body if not (isinstance(node, ast.If) and ast.unparse(node.test) == "TYPE_CHECKING")]
+    tree.body = [
+        node for node in tree.body if not (isinstance(node, ast.If) and ast.unparse(node.test) == "TYPE_CHECKING")
+    ]
     for node in ast.walk(tree):
         if isinstance(node, ast.Import):
             yield from (each.name.partition(".")[0] for each in node.names)
@@ -52,7 +54,11 @@ def imported(path: pathlib.Path) -> Iterator[str]:
             yield (node.module or "").partition(".")[0]
         elif isinstance(node, ast.Call) and isinstance(node.func, (ast.Name, ast.Attribute)):
             called = node.func.id if isinstance(node.func, ast.Name) else node.func.attr
-            if called in ("import_module", "lacking", "package") and node.args and isinstance(node.args[0], ast.Constant):
+            if (
+                called in ("import_module", "lacking", "package")
+                and node.args
+                and isinstance(node.args[0], ast.Constant)
+            ):
                 yield str(node.args[0].value).partition(".")[0]
 
 
@@ -63,13 +69,17 @@ OFFLINE = {**os.environ, "PIP_NO_INDEX": "1", "PIP_DISABLE_PIP_VERSION_CHECK": "
 @unittest.skipUnless(has_venv(), "without venv (Debian's package python3-venv)")
 class Install(Case):
     def run_in(self, folder, *words):
-        done = subprocess.run([str(word) for word in words], cwd=folder, env=OFFLINE, capture_output=True, encoding="utf-8")
+        done = subprocess.run(
+            [str(word) for word in words], cwd=folder, env=OFFLINE, capture_output=True, encoding="utf-8"
+        )
         self.assertEqual(done.returncode, 0, done.stdout + done.stderr)
         return done.stdout
 
     def test_by_the_line_of_the_pages(self):
-        pages = [(ROOT / page).read_text(encoding="utf-8") for page in ("README.md", "docs/PYTHON.md", "python/README.md")]
-        line, = {line for page in pages for line in page.splitlines() if line.startswith("python3 -m venv ~/")}
+        pages = [
+            (ROOT / page).read_text(encoding="utf-8") for page in ("README.md", "docs/PYTHON.md", "python/README.md")
+        ]
+        (line,) = {line for page in pages for line in page.splitlines() if line.startswith("python3 -m venv ~/")}
         line = line.replace("~", str(self.folder)).replace("python3 -m venv", f"{sys.executable} -m venv")
         before = sorted(path for path in (ROOT / "python").rglob("*") if "__pycache__" not in path.parts)
         self.run_in(ROOT, "sh", "-c", line)
@@ -83,7 +93,9 @@ class Install(Case):
         self.assertIn("Version: 1.0", self.run_in(self.folder, python, "-m", "pip", "show", "clearing_client"))
         # The installed package finds the program on the path, and never by the working folder.
         code = "import clearing_client as cc; print(cc.find_program())"
-        told = self.run_in(ROOT / "examples", "env", "-u", "CLEARING", f"PATH={ROOT}:/usr/bin:/bin", python, "-I", "-c", code)
+        told = self.run_in(
+            ROOT / "examples", "env", "-u", "CLEARING", f"PATH={ROOT}:/usr/bin:/bin", python, "-I", "-c", code
+        )
         self.assertEqual(told.strip(), str(ROOT / "clearing"))
         # Its commands are the tools.
         files = ["--banks", CHAIN / "banks.csv", "--debts", CHAIN / "debts.csv"]
@@ -108,10 +120,18 @@ class Install(Case):
         self.assertEqual({entry.date_time for entry in entries}, {(1980, 1, 1, 0, 0, 0)})
         names = {entry.filename for entry in entries if ".dist-info/" not in entry.filename}
         # Each file of the sources, of whatever kind, and these kinds are there.
-        sources = {path.relative_to(PACKAGES).as_posix() for path in PACKAGES.rglob("*") if path.is_file() and "__pycache__" not in path.parts}
+        sources = {
+            path.relative_to(PACKAGES).as_posix()
+            for path in PACKAGES.rglob("*")
+            if path.is_file() and "__pycache__" not in path.parts
+        }
         self.assertEqual(names, sources | {build.RELEASE})
         for folder, kinds in KINDS.items():
-            self.assertEqual({pathlib.PurePath(name).suffix for name in names if str(pathlib.PurePath(name).parent) == folder}, kinds, folder)
+            self.assertEqual(
+                {pathlib.PurePath(name).suffix for name in names if str(pathlib.PurePath(name).parent) == folder},
+                kinds,
+                folder,
+            )
 
     def test_the_tools_of_a_wheel_know_the_number_of_the_release(self):
         import build
@@ -125,24 +145,37 @@ class Install(Case):
         for wheel in (self.folder / build.build_wheel(self.folder), self.folder / "again" / again.strip()):
             place = self.folder / "of" / wheel.parent.name
             zipfile.ZipFile(wheel).extractall(place)
-            code = "import sys; sys.path[:0] = sys.argv[1:]; from clearing_tools.runner import version; print(version())"
+            code = (
+                "import sys; sys.path[:0] = sys.argv[1:]; from clearing_tools.runner import version; print(version())"
+            )
             self.assertEqual(self.run_in(self.folder, sys.executable, "-IBc", code, place), f"{number}\n", wheel)
             (place / build.RELEASE).unlink()
             self.assertEqual(self.run_in(self.folder, sys.executable, "-IBc", code, place), "\n", wheel)
 
-    @unittest.skipUnless(python_with("jinja2", "bottle"), "no Python here has jinja2 and bottle (Debian's packages python3-jinja2 and python3-bottle)")
+    @unittest.skipUnless(
+        python_with("jinja2", "bottle"),
+        "no Python here has jinja2 and bottle (Debian's packages python3-jinja2 and python3-bottle)",
+    )
     def test_what_a_wheel_has_is_enough_for_a_report_and_for_the_desk(self):
         import build
 
         zipfile.ZipFile(self.folder / build.build_wheel(self.folder)).extractall(self.folder / "there")
         python, there = python_with("jinja2", "bottle"), {**os.environ, "PYTHONPATH": str(self.folder / "there")}
-        code = "import sys\nfrom clearing_tools.report import gather\nassert gather.__file__.startswith(sys.argv.pop(1))\nsys.exit(gather.main())"
+        code = (
+            "import sys\nfrom clearing_tools.report import gather\nassert"
+            " gather.__file__.startswith(sys.argv.pop(1))\nsys.exit(gather.main())"
+        )
         report = self.folder / "report.html"
         files = ["--banks", CHAIN / "banks.csv", "--debts", CHAIN / "debts.csv", "--out", report]
-        done = subprocess.run([python, "-c", code, self.folder, *files], cwd=self.folder, env=there, capture_output=True, encoding="utf-8")
+        done = subprocess.run(
+            [python, "-c", code, self.folder, *files], cwd=self.folder, env=there, capture_output=True, encoding="utf-8"
+        )
         self.assertEqual((done.returncode, done.stdout, done.stderr), (0, "", ""))
         self.assertIn("</html>", report.read_text(encoding="utf-8"))
-        code = "import json\nfrom clearing_tools.desk import app\nprint(json.dumps([app.__file__, app.page_text(True), app.style_text(), app.SCRIPTS]))"
+        code = (
+            "import json\nfrom clearing_tools.desk import app\nprint(json.dumps([app.__file__, app.page_text(True),"
+            " app.style_text(), app.SCRIPTS]))"
+        )
         done = subprocess.run([python, "-c", code], cwd=self.folder, env=there, capture_output=True, encoding="utf-8")
         self.assertEqual((done.returncode, done.stderr), (0, ""))
         place, page, style, scripts = json.loads(done.stdout)
@@ -182,7 +215,17 @@ class Install(Case):
         import build
 
         name = build.build_sdist(self.folder)
-        self.run_in(self.folder, sys.executable, "-m", "pip", "install", "--quiet", "--target", self.folder / "there", self.folder / name)
+        self.run_in(
+            self.folder,
+            sys.executable,
+            "-m",
+            "pip",
+            "install",
+            "--quiet",
+            "--target",
+            self.folder / "there",
+            self.folder / name,
+        )
         self.assertTrue((self.folder / "there/clearing_client/network.py").is_file())
 
 

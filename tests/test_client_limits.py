@@ -1,4 +1,5 @@
-"""The limits of networks in the package: which are taken where nobody says so, that it is said once, and what keeps them."""
+"""The limits of networks in the package: which are taken where nobody says so, that it is said once, and what keeps
+them."""
 import pickle
 import unittest
 import warnings
@@ -40,13 +41,19 @@ class Limits(Case):
             (banks_of(2).ljust(size + 1, b"\n"), HEAD, "a banks file of more than 8,388,608 bytes"),
             (banks_of(2), HEAD.ljust(size + 1, b"\n"), "a debts file of more than 8,388,608 bytes"),
             # Records without a field with a byte do not count, however lines end.
-            (banks_of(1000).replace(b"\n", b"\r\n") + b",,\r\n" * 2000, debts[0].replace(b"\n", b"\r") + b"\r" * 9, None),
+            (
+                banks_of(1000).replace(b"\n", b"\r\n") + b",,\r\n" * 2000,
+                debts[0].replace(b"\n", b"\r") + b"\r" * 9,
+                None,
+            ),
             (b"\xff" * 99, b'"', None),
         ]:
             with self.subTest(what=what):
                 self.assertEqual(limits.beyond(banks, owes), what)
                 self.assertEqual(limits.needed(banks, owes), "wide" if what else "standard")
-        self.assertEqual([limits.of_counts(1000, 20_000, 10**7), limits.of_counts(1000, 20_000, 10**7 + 1)], ["standard", "wide"])
+        self.assertEqual(
+            [limits.of_counts(1000, 20_000, 10**7), limits.of_counts(1000, 20_000, 10**7 + 1)], ["standard", "wide"]
+        )
 
     def test_a_network_takes_the_limits_that_it_needs_and_says_so_once(self):
         net = Network(MANY, [("B0", "B1", 1, 5)])
@@ -56,7 +63,9 @@ class Limits(Case):
         self.assertEqual(told, [(what, __file__)])
         # What is made of it is told of already, and goes to another process as it is.
         richer, again = net.with_cash({"B0": 5}), pickle.loads(pickle.dumps(net))
-        self.assertEqual(self.told(lambda: [richer.central().limits, again.limits, again._is_told]), (["wide", "wide", True], []))
+        self.assertEqual(
+            self.told(lambda: [richer.central().limits, again.limits, again._is_told]), (["wide", "wide", True], [])
+        )
         small, told = self.told(Network(CHAIN / "banks.csv", CHAIN / "debts.csv").check)
         self.assertEqual((small.limits, told), ("standard", []))
 
@@ -64,7 +73,10 @@ class Limits(Case):
         debts = [("B0", "B1", 1, 5)]
         said, told = self.told(Network(MANY, debts, limits="wide").check)
         self.assertEqual((said.limits, told), ("wide", []))
-        for call in (Network(MANY, debts, limits="standard").check, lambda: Network(MANY, debts).check(limits="standard")):
+        for call in (
+            Network(MANY, debts, limits="standard").check,
+            lambda: Network(MANY, debts).check(limits="standard"),
+        ):
             with self.assertRaises(cc.RefusedError) as caught:
                 call()
             self.assertEqual((caught.exception.row, caught.exception.kind), (1001, "too many"))
@@ -74,15 +86,21 @@ class Limits(Case):
             small.check(limits="big")
 
     def test_journals_and_scenarios_keep_them(self):
-        net = Network([("A", 1, "order"), ("B", 0, "order")], [*OWED, ("A", "B", 1, 1)][:10] + [("B", "A", 2, 1)], limits="wide")
+        net = Network(
+            [("A", 1, "order"), ("B", 0, "order")], [*OWED, ("A", "B", 1, 1)][:10] + [("B", "A", 2, 1)], limits="wide"
+        )
         small = Network({"A": 7, "B": 1}, {("A", "B"): 10}, limits="wide")
         journal = small.clear(workers=1, journal=True).journal
         self.assertEqual(journal.limits, "wide")
         other = Network({"A": 7, "B": 1}, {("A", "B"): 10})
         self.assertEqual(other.replay(journal).limits, "wide")
         self.assertEqual(other.replay(journal.raises).limits, "standard")
-        (cuts, sums), told = self.told(lambda: (list(cc.map_stress([net._by_limits(None), other], Scenarios.cuts([1000]))),
-                                                list(cc.map_outcomes([net, other], Scenarios.cuts([1000])))))
+        (cuts, sums), told = self.told(
+            lambda: (
+                list(cc.map_stress([net._by_limits(None), other], Scenarios.cuts([1000]))),
+                list(cc.map_outcomes([net, other], Scenarios.cuts([1000]))),
+            )
+        )
         self.assertEqual([one.limits for one in cuts], ["wide", "standard"])
         self.assertEqual([one.limits for one in sums], ["wide", "standard"])
         self.assertEqual(len(told), 1)
@@ -94,7 +112,9 @@ class Limits(Case):
             place = self.folder / f"{len(net._banks)}-{said}"
             cc.Case(net, title="A case", limits=said).write(place)
             case = cc.Case.read(place)
-            self.assertEqual((case.limits, case.document()["clearing"]["limits"], case.network.limits), (want, want, want))
+            self.assertEqual(
+                (case.limits, case.document()["clearing"]["limits"], case.network.limits), (want, want, want)
+            )
         self.assertEqual(cc.Case(large, limits="standard").network.limits, "standard")
 
 

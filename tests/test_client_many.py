@@ -1,4 +1,5 @@
-"""Many networks and scenarios side by side: results as they come, by processes of this machine or by an executor of others."""
+"""Many networks and scenarios side by side: results as they come, by processes of this machine or by an executor of
+others."""
 import concurrent.futures
 import os
 import pathlib
@@ -21,9 +22,18 @@ def of(folder):
 
 def sums_of(left):
     """The sums of what `stress` leaves, from its standings."""
-    scenarios = [(one.name, one.total.cash, sum(one.standings.column("paid")), sum(one.standings.column("outside_paid")),
-                  sum(one.standings.column("equity")), len(one.defaults), one.standings.column("state").count("fundamental"))
-                 for one in left.scenarios]
+    scenarios = [
+        (
+            one.name,
+            one.total.cash,
+            sum(one.standings.column("paid")),
+            sum(one.standings.column("outside_paid")),
+            sum(one.standings.column("equity")),
+            len(one.defaults),
+            one.standings.column("state").count("fundamental"),
+        )
+        for one in left.scenarios
+    ]
     states = list(zip(*(one.standings.column("state") for one in left.scenarios)))
     counts = [(sum(state != "sound" for state in each), each.count("fundamental")) for each in states]
     return scenarios, counts
@@ -34,8 +44,10 @@ class SideBySide(Case):
         nets = [Network({"A": cash, "B": 0}, {("A", "B"): 10}) for cash in range(20)]
         for jobs in (1, 3, None):
             left = list(cc.map_stress(nets, Scenarios.cuts([0, 500]), jobs=jobs))
-            self.assertEqual([(one.number, one.payments[0].paid) for one in left],
-                             [pair for cash in range(20) for pair in ((1, min(10, cash)), (2, min(10, cash - cash // 2)))])
+            self.assertEqual(
+                [(one.number, one.payments[0].paid) for one in left],
+                [pair for cash in range(20) for pair in ((1, min(10, cash)), (2, min(10, cash - cash // 2)))],
+            )
             self.assertEqual([one.network for one in left], [net for net in nets for _ in range(2)])
         self.assertEqual(list(cc.map_stress([], [])), [])
         self.assertEqual(list(cc.map_stress(nets[:1], [])), [])
@@ -57,7 +69,9 @@ class SideBySide(Case):
             with self.assertRaises(cc.RefusedError) as caught:
                 list(call([net], [*Scenarios.cuts(range(150)), Scenario("x", 1001)]))
             fault = caught.exception
-            self.assertEqual((fault.file, fault.row, fault.kind, fault.record), ("scenarios", 151, "limit", Scenario("x", 1001)))
+            self.assertEqual(
+                (fault.file, fault.row, fault.kind, fault.record), ("scenarios", 151, "limit", Scenario("x", 1001))
+            )
 
     def test_a_fault_comes_in_its_place_and_ends_it(self):
         nets = [of(CHAIN), Network([("A", 1, "none")], []), of(HUB)]
@@ -70,8 +84,10 @@ class SideBySide(Case):
 
     def test_runs_go_side_by_side(self):
         # Each run waits until the other has begun, but not for ever.
-        self.program(f'touch {self.folder}/$$; n=0; while [ $(ls {self.folder} | grep -c "^[0-9]*$") -lt 2 ]; do sleep 0.02; '
-                     f'n=$((n + 1)); [ $n -lt 500 ] || exit 77; done; exec {os.environ["CLEARING"]} "$@"')
+        self.program(
+            f'touch {self.folder}/$$; n=0; while [ $(ls {self.folder} | grep -c "^[0-9]*$") -lt 2 ]; do sleep 0.02; '
+            f'n=$((n + 1)); [ $n -lt 500 ] || exit 77; done; exec {os.environ["CLEARING"]} "$@"'
+        )
         self.assertEqual(len(list(cc.map_stress([of(CHAIN), of(HUB)], Scenarios.cuts([1]), jobs=2))), 2)
 
     def test_few_runs_begin_ahead_of_what_is_taken(self):
@@ -94,13 +110,21 @@ class SideBySide(Case):
     def test_memory_does_not_grow_with_the_scenarios(self):
         # 300 scenarios of 4,000 debts: held whole they are 90 megabytes more than 20 are.
         pairs = [(n, (n + step) % 200) for n in range(200) for step in range(1, 21)]
-        net = Network([(f"bank {n}", n * 79 % 2000, "webster") for n in range(200)],
-                      [(f"bank {n}", f"bank {m}", 1, 1 + (n * 31 + m * 17) % 500) for n, m in pairs])
+        net = Network(
+            [(f"bank {n}", n * 79 % 2000, "webster") for n in range(200)],
+            [(f"bank {n}", f"bank {m}", 1, 1 + (n * 31 + m * 17) % 500) for n, m in pairs],
+        )
         net.write(self.folder / "banks.csv", self.folder / "debts.csv")
         script = self.file("held.py", HELD.format(source=str(ROOT / "python" / "src"), folder=str(self.folder)))
         for call in ("map_stress", "map_outcomes"):
-            held = [int(subprocess.run([sys.executable, script, call, str(count)], stdout=subprocess.PIPE, check=True).stdout)
-                    for count in (20, 300)]
+            held = [
+                int(
+                    subprocess.run(
+                        [sys.executable, script, call, str(count)], stdout=subprocess.PIPE, check=True
+                    ).stdout
+                )
+                for count in (20, 300)
+            ]
             self.assertLess(held[1] - held[0], 40, f"{call}: {held} megabytes")
 
 
@@ -116,13 +140,28 @@ class Sums(Case):
             self.assertTrue(all(one.cash == one.outside_paid + one.equity for one in left.scenarios))
 
     def test_worked_sums(self):
-        scenarios = [Scenario("A loses all", losses={"A": 7}), Scenario("A loses more than it has", losses={"A": 8}), Scenario("half", 500)]
-        left, = cc.map_outcomes([of(CHAIN)], scenarios)
-        self.assertEqual([tuple(one) for one in left.scenarios], [
-            ("A loses all", 1, 1, 0, 1, 2, 1), ("A loses more than it has", 1, 1, 0, 1, 2, 1), ("half", 5, 9, 0, 5, 2, 1)])
+        scenarios = [
+            Scenario("A loses all", losses={"A": 7}),
+            Scenario("A loses more than it has", losses={"A": 8}),
+            Scenario("half", 500),
+        ]
+        (left,) = cc.map_outcomes([of(CHAIN)], scenarios)
+        self.assertEqual(
+            [tuple(one) for one in left.scenarios],
+            [
+                ("A loses all", 1, 1, 0, 1, 2, 1),
+                ("A loses more than it has", 1, 1, 0, 1, 2, 1),
+                ("half", 5, 9, 0, 5, 2, 1),
+            ],
+        )
         self.assertEqual([tuple(one) for one in left.banks], [("A", 3, 3), ("B", 3, 0), ("C", 0, 0)])
-        self.assertEqual(left.text, "scenario,cash,paid,outside_paid,equity,defaults,fundamental\nA loses all,1,1,0,1,2,1\n"
-                         "A loses more than it has,1,1,0,1,2,1\nhalf,5,9,0,5,2,1\n\nbank,defaults,fundamental\nA,3,3\nB,3,0\nC,0,0\n")
+        self.assertEqual(
+            left.text,
+            (
+                "scenario,cash,paid,outside_paid,equity,defaults,fundamental\nA loses all,1,1,0,1,2,1\nA loses more"
+                " than it has,1,1,0,1,2,1\nhalf,5,9,0,5,2,1\n\nbank,defaults,fundamental\nA,3,3\nB,3,0\nC,0,0\n"
+            ),
+        )
         self.assertEqual(cc.read(left.text), left)
 
     def test_networks_of_one_kind_are_kept_apart(self):
@@ -130,20 +169,33 @@ class Sums(Case):
         left = list(cc.map_outcomes(nets, Scenarios.cuts(range(60)), jobs=3))
         self.assertEqual([len(one.scenarios) for one in left], [60, 60, 60])
         self.assertEqual(left[0], left[1])
-        left, = cc.map_outcomes([of(CHAIN)], [])
-        self.assertEqual((len(left.scenarios), [tuple(one) for one in left.banks]), (0, [("A", 0, 0), ("B", 0, 0), ("C", 0, 0)]))
+        (left,) = cc.map_outcomes([of(CHAIN)], [])
+        self.assertEqual(
+            (len(left.scenarios), [tuple(one) for one in left.banks]), (0, [("A", 0, 0), ("B", 0, 0), ("C", 0, 0)])
+        )
 
 
 class Text(unittest.TestCase):
     """What is read as it comes is what is read whole."""
 
-    LINES = ["scenario,a,b\n", texts.PAYMENTS + "\n", "A,B,1,10,7\n", texts.STANDINGS_1 + "\n", "A,7,7,10,0,fundamental\n", "B,7,0,0,7,sound\n",
-             "total,14,7,10,7,1\n", "cash,7\n"]
+    LINES = [
+        "scenario,a,b\n",
+        texts.PAYMENTS + "\n",
+        "A,B,1,10,7\n",
+        texts.STANDINGS_1 + "\n",
+        "A,7,7,10,0,fundamental\n",
+        "B,7,0,0,7,sound\n",
+        "total,14,7,10,7,1\n",
+        "cash,7\n",
+    ]
 
     def read(self, text):
         """What each way reads, or the fault that it raises."""
         told = []
-        for read in (lambda: cc.read(text).scenarios, lambda: tuple(texts.outcomes_in(text.encode().splitlines(keepends=True)))):
+        for read in (
+            lambda: cc.read(text).scenarios,
+            lambda: tuple(texts.outcomes_in(text.encode().splitlines(keepends=True))),
+        ):
             try:
                 told.append(read())
             except cc.TextError as fault:
@@ -178,7 +230,7 @@ class Executors(Case):
         for kind in (concurrent.futures.ThreadPoolExecutor, concurrent.futures.ProcessPoolExecutor):
             with kind(2) as executor:
                 self.assertEqual(list(cc.map_stress([net], scenarios, executor=executor)), whole)
-                left, = cc.map_outcomes([net], scenarios, executor=executor)
+                (left,) = cc.map_outcomes([net], scenarios, executor=executor)
                 self.assertEqual([tuple(one) for one in left.scenarios], sums_of(net.stress(scenarios))[0])
                 self.assertEqual(executor.submit(abs, -1).result(), 1)
 
@@ -190,6 +242,7 @@ class Executors(Case):
                 with open(seen, "a", encoding="utf-8") as file:
                     file.write(f"{os.getpid()}\n")
                 return parser(*words)
+
             return here
 
         with mock.patch.object(many, "outcomes_in", told(parse)), mock.patch.object(network, "parse", told(read)):
@@ -209,8 +262,13 @@ class Executors(Case):
     def test_an_interrupt_ends_it(self):
         script = self.file("long.py", LONG.format(source=str(ROOT / "python" / "src")))
         self.program("echo $$ >>{0}/begun; exec sleep 600".format(self.folder))
-        process = subprocess.Popen([sys.executable, script], stdout=subprocess.PIPE, stderr=subprocess.PIPE, encoding="utf-8",
-                                   start_new_session=True)
+        process = subprocess.Popen(
+            [sys.executable, script],
+            stdout=subprocess.PIPE,
+            stderr=subprocess.PIPE,
+            encoding="utf-8",
+            start_new_session=True,
+        )
         self.addCleanup(process.kill)
         begun = self.folder / "begun"
         ends = time.monotonic() + 60
@@ -220,10 +278,13 @@ class Executors(Case):
         output, messages = process.communicate(timeout=60)
         self.assertEqual((process.returncode, output, messages), (130, "interrupted\n", ""))
         for number in begun.read_text().split():
-            self.assertFalse(pathlib.Path(f"/proc/{number}").exists() and "sleep" in pathlib.Path(f"/proc/{number}/cmdline").read_text())
+            self.assertFalse(
+                pathlib.Path(f"/proc/{number}").exists()
+                and "sleep" in pathlib.Path(f"/proc/{number}/cmdline").read_text()
+            )
 
 
-HELD = '''
+HELD = """
 import resource
 import sys
 sys.path.insert(0, {source!r})
@@ -234,9 +295,9 @@ scenarios = cc.Scenarios.cuts(range(int(sys.argv[2])))
 left = getattr(cc, sys.argv[1])([net], scenarios, jobs=2)
 assert sum(1 for one in left) == (len(scenarios) if sys.argv[1] == "map_stress" else 1)
 print(sum(resource.getrusage(whose).ru_maxrss for whose in (resource.RUSAGE_SELF, resource.RUSAGE_CHILDREN)) // 1024)
-'''
+"""
 
-DASK = '''
+DASK = """
 import sys
 sys.path.insert(0, {source!r})
 import os
@@ -254,9 +315,9 @@ if __name__ == "__main__":
         workers = len(client.scheduler_info()["workers"])
     same = tuple(left) == net.stress(scenarios).scenarios
     print(len(left), len(sums.scenarios), workers, same, sums == next(cc.map_outcomes([net], scenarios)))
-'''
+"""
 
-LONG = '''
+LONG = """
 import sys
 sys.path.insert(0, {source!r})
 import clearing_client as cc
@@ -267,7 +328,7 @@ try:
 except KeyboardInterrupt:
     print("interrupted")
     sys.exit(130)
-'''
+"""
 
 if __name__ == "__main__":
     unittest.main()

@@ -1,4 +1,5 @@
-"""Names of every character that the formats allow come through: tables, scenarios by either writer, words and results."""
+"""Names of every character that the formats allow come through: tables, scenarios by either writer, words and
+results."""
 import sys
 import unicodedata
 import unittest
@@ -29,10 +30,67 @@ def names_of(characters):
     return [*names, name + ">"]
 
 
-HOSTILE = ["'", "\\", "\\n", "\\u0041", "''", "'''", "#", "[[scenario]]", "a = 1", "-", "--", "-A", "--bank=A", "$(touch x)", "`x`",
-           "%s", "{}", "total", "cash", "scenario", "bank", "name", "NA", "nan", "None", "null", "0", "007", "1e3", "=1+1", "@x",
-           "\ufeff", "\ufeffA", "\u00a0", "\u2028", "\u200b", "\u202eabc", "a\u0301", "\u00e1", "\U0010ffff", "x" * 64, "é" * 32,
-           "a b", "a  b", "*", "?", "~", "/", ".", "..", ";", "a;b", "&", "|", "<b>", "true", "inf", "rounds", "lawful"]
+HOSTILE = [
+    "'",
+    "\\",
+    "\\n",
+    "\\u0041",
+    "''",
+    "'''",
+    "#",
+    "[[scenario]]",
+    "a = 1",
+    "-",
+    "--",
+    "-A",
+    "--bank=A",
+    "$(touch x)",
+    "`x`",
+    "%s",
+    "{}",
+    "total",
+    "cash",
+    "scenario",
+    "bank",
+    "name",
+    "NA",
+    "nan",
+    "None",
+    "null",
+    "0",
+    "007",
+    "1e3",
+    "=1+1",
+    "@x",
+    "\ufeff",
+    "\ufeffA",
+    "\u00a0",
+    "\u2028",
+    "\u200b",
+    "\u202eabc",
+    "a\u0301",
+    "\u00e1",
+    "\U0010ffff",
+    "x" * 64,
+    "é" * 32,
+    "a b",
+    "a  b",
+    "*",
+    "?",
+    "~",
+    "/",
+    ".",
+    "..",
+    ";",
+    "a;b",
+    "&",
+    "|",
+    "<b>",
+    "true",
+    "inf",
+    "rounds",
+    "lawful",
+]
 
 
 class Names(Case):
@@ -66,7 +124,10 @@ class Names(Case):
                 self.assertEqual((saved.bank, saved.payments.column("debtor")), (name, HOSTILE))
 
     def test_a_bank_that_the_command_line_cannot_name_is_saved_all_the_same(self):
-        banks, debts = [("-A", 7, "order"), ("0", 1, "order"), ("1", 0, "order")], [("-A", "0", 1, 10), ("0", "1", 1, 9)]
+        banks, debts = [("-A", 7, "order"), ("0", 1, "order"), ("1", 0, "order")], [
+            ("-A", "0", 1, 10),
+            ("0", "1", 1, 9),
+        ]
         told = Network(banks, debts).rescue("-A")
         plain = Network([("A", *banks[0][1:]), *banks[1:]], [("A", *debts[0][1:]), debts[1]]).rescue("A")
         self.assertEqual((told.bank, told.added, told.short), ("-A", plain.added, plain.short))
@@ -96,15 +157,17 @@ class Names(Case):
         for code in [*range(0x20), *range(0x7F, 0xA0), *map(ord, FORBIDDEN)]:
             name = f"a{chr(code)}b"
             with self.subTest(name=name):
-                for fault, call in [("banks", Network([(name, 1, "order")], []).check),
-                                    ("scenarios", lambda: Network([], []).stress([Scenario(name)]))]:
+                for fault, call in [
+                    ("banks", Network([(name, 1, "order")], []).check),
+                    ("scenarios", lambda: Network([], []).stress([Scenario(name)])),
+                ]:
                     with self.assertRaises(cc.RefusedError) as caught:
                         call()
                     self.assertEqual((caught.exception.file, caught.exception.kind), (fault, "name"))
 
     @needs_packages("tomli_w")
     def test_both_writers_say_the_same(self):
-        scenarios = Scenarios([Scenario(name, n, {name: 7, "\x01\x7f\"\\\n\t": 8}) for n, name in enumerate(HOSTILE)])
+        scenarios = Scenarios([Scenario(name, n, {name: 7, '\x01\x7f"\\\n\t': 8}) for n, name in enumerate(HOSTILE)])
         import tomli_w
 
         document = {"scenario": [one.as_table() for one in scenarios]}
@@ -119,11 +182,20 @@ class Names(Case):
     def test_the_plain_writer_says_what_it_should(self):
         import tomllib
 
-        text = "".join(map(chr, [*range(0x20), *range(0x7F, 0xA0)])) + "\"\\\u2028\U0001f600"
-        scenarios = Scenarios([Scenario(text, 3, [(text, 1), (text, 2)]), Scenario("b"), Scenario("c", losses={"B": 0})])
-        self.assertEqual(tomllib.loads(scenarios.to_toml(plain=True)), {"scenario": [
-            {"name": text, "cut": 3, "loss": [{"bank": text, "amount": 1}, {"bank": text, "amount": 2}]},
-            {"name": "b"}, {"name": "c", "loss": [{"bank": "B", "amount": 0}]}]})
+        text = "".join(map(chr, [*range(0x20), *range(0x7F, 0xA0)])) + '"\\\u2028\U0001f600'
+        scenarios = Scenarios(
+            [Scenario(text, 3, [(text, 1), (text, 2)]), Scenario("b"), Scenario("c", losses={"B": 0})]
+        )
+        self.assertEqual(
+            tomllib.loads(scenarios.to_toml(plain=True)),
+            {
+                "scenario": [
+                    {"name": text, "cut": 3, "loss": [{"bank": text, "amount": 1}, {"bank": text, "amount": 2}]},
+                    {"name": "b"},
+                    {"name": "c", "loss": [{"bank": "B", "amount": 0}]},
+                ]
+            },
+        )
         self.assertEqual(list(Scenarios(tomllib.loads(scenarios.to_toml(plain=True))["scenario"])), list(scenarios))
 
     def test_integers_for_names(self):

@@ -59,7 +59,9 @@ class Tasks(Case):
         text = printed("clear", *files_of(TWELVE), "--workers", 1, "--show", "journal")
         seen = self.folder / "seen.csv"
         net, before = of(TWELVE), os.environ["CLEARING"]
-        self.program(f'for word; do case $last in --journal) cat "$word" >{seen};; esac; last=$word; done; exec {before} "$@"')
+        self.program(
+            f'for word; do case $last in --journal) cat "$word" >{seen};; esac; last=$word; done; exec {before} "$@"'
+        )
         self.assertTrue(net.replay(cc.read(text)).lawful)
         self.assertEqual(seen.read_text(encoding="utf-8"), text)
 
@@ -72,14 +74,19 @@ class Tasks(Case):
         self.assertEqual(net.clear().payments.column("paid"), [7, 8])
         self.assertEqual(net.defaults().defaults, ["A", "B"])
         self.assertEqual((net.rescue("A").added, net.rescue("A").short), (3, 1))
-        self.assertEqual([tuple(bank) for bank in net.breaking().cuts], [("A", 0, "fundamental"), ("B", 0, "contagion"), ("C", 1001, "sound")])
+        self.assertEqual(
+            [tuple(bank) for bank in net.breaking().cuts],
+            [("A", 0, "fundamental"), ("B", 0, "contagion"), ("C", 1001, "sound")],
+        )
         self.assertEqual([tuple(pair) for pair in net.impact().pairs], [("A", "C", 7, False), ("B", "C", 1, False)])
         self.assertEqual(net.impact().to_lists(), [[0, 0, 7], [0, 0, 1], [0, 0, 0]])
         self.assertEqual([tuple(bank) for bank in net.rescues().banks], [("A", 3, 1, 1, 0), ("B", 1, 1, 0, 1)])
         self.assertEqual([tuple(pair) for pair in net.rescues().saved], [("A", "B")])
         self.assertEqual(tuple(net.outcomes([Scenario("half", 500)]).scenarios[0]), ("half", 5, 9, 0, 5, 2, 1))
-        self.assertEqual([tuple(bank)[1:] for bank in net.cost_bounds(500).standings],
-                         [(4, 0, "fundamental") * 2, (2, 0, "contagion") * 2, (0, 2, "sound") * 2])
+        self.assertEqual(
+            [tuple(bank)[1:] for bank in net.cost_bounds(500).standings],
+            [(4, 0, "fundamental") * 2, (2, 0, "contagion") * 2, (0, 2, "sound") * 2],
+        )
         self.assertEqual(net.check().total, (3, 2, 19, 8))
         self.assertEqual(net.clear().to_lists(), [[0, 7, 0], [0, 0, 8], [0, 0, 0]])
         self.assertEqual(net.clear().to_lists("claim"), [[0, 10, 0], [0, 0, 9], [0, 0, 0]])
@@ -110,7 +117,7 @@ class Tasks(Case):
             with self.assertRaisesRegex(ValueError, verdict):
                 told.to_lists()
         self.assertEqual(net.replay([raises[0]]).bank, "B")
-        spaced = "stamp,debtor,creditor,class,to\n,,,,\n\n1,A,B,1,7\r\n\" 2 \",B, C ,1,9\n"
+        spaced = 'stamp,debtor,creditor,class,to\n,,,,\n\n1,A,B,1,7\r\n" 2 ",B, C ,1,9\n'
         self.assertEqual(net.replay(self.file("j.csv", spaced)).record, raises[1]._replace(to=9))
 
 
@@ -129,15 +136,34 @@ class Forms(Case):
         self.same(Network(str(CHAIN / "banks.csv"), str(CHAIN / "debts.csv")))
         self.same(Network([cc.Bank(*bank) for bank in BANKS], [cc.Debt(*debt) for debt in DEBTS]))
         self.same(Network({"A": 7, "B": 1, "C": 0}, {("A", "B"): 10, ("B", "C"): 9}, rule="order"))
-        self.same(Network({"A": {"cash": 7}, "B": {"cash": 1}, "C": {"cash": 0}}, [d[:2] + d[3:] for d in DEBTS], rule="order"))
+        self.same(
+            Network(
+                {"A": {"cash": 7}, "B": {"cash": 1}, "C": {"cash": 0}}, [d[:2] + d[3:] for d in DEBTS], rule="order"
+            )
+        )
 
     def test_numbers_without_a_fraction_and_texts_of_digits(self):
         from decimal import Decimal
         from fractions import Fraction
 
         self.same(Network([("A", 7.0, "order"), ("B", Decimal("1.0"), "order"), ("C", " 0 ", "order")], DEBTS))
-        for wrong in (7.5, float("nan"), float("inf"), 2.0**60, Decimal("7.5"), Decimal("NaN"), Decimal("sNaN"), True, None,
-                      "", " ", [7], Fraction(7), 10**40, 7j):
+        for wrong in (
+            7.5,
+            float("nan"),
+            float("inf"),
+            2.0**60,
+            Decimal("7.5"),
+            Decimal("NaN"),
+            Decimal("sNaN"),
+            True,
+            None,
+            "",
+            " ",
+            [7],
+            Fraction(7),
+            10**40,
+            7j,
+        ):
             with self.subTest(wrong=wrong), self.assertRaises(TableError) as caught:
                 Network([("A", 7, "order"), ("B", wrong, "order")], DEBTS)
             fault = caught.exception
@@ -155,11 +181,26 @@ class Forms(Case):
         for fifty in (50, 50.0, Decimal("50.0"), Index()):
             with self.subTest(fifty=fifty):
                 self.assertEqual(Scenario("x", cut=fifty, losses={"A": fifty}), Scenario("x", 50, [("A", 50)]))
-                self.assertEqual(Scenarios([{"name": "x", "cut": fifty}]).to_toml(plain=True), '[[scenario]]\nname = "x"\ncut = 50\n')
+                self.assertEqual(
+                    Scenarios([{"name": "x", "cut": fifty}]).to_toml(plain=True), '[[scenario]]\nname = "x"\ncut = 50\n'
+                )
                 self.assertEqual(Scenarios.cuts([fifty])[0], Scenario("cut 50", 50))
         net = Network({"A": 7e6, "B": 1}, {("A", "B"): 10})
         self.assertEqual(net.stress([Scenario("x", losses={"A": 7e6 - 1})]).payments[0].paid, 1)
-        for wrong in (7.5, float("nan"), float("inf"), 2.0**60, Decimal("7.5"), Decimal("sNaN"), True, None, "", [7], Fraction(7), 7j):
+        for wrong in (
+            7.5,
+            float("nan"),
+            float("inf"),
+            2.0**60,
+            Decimal("7.5"),
+            Decimal("sNaN"),
+            True,
+            None,
+            "",
+            [7],
+            Fraction(7),
+            7j,
+        ):
             with self.subTest(wrong=wrong), self.assertRaises(TableError) as caught:
                 Scenario("x", losses={"A": wrong})
             self.assertEqual((caught.exception.file, caught.exception.field), ("scenarios", "amount"))

@@ -15,8 +15,14 @@ class WithoutPackages(Case):
     def test_each_call_says_what_it_wants(self):
         net = Network({"A": 7, "B": 1}, {("A", "B"): 10})
         impact = net.impact()
-        for name, call in [("pandas", net.to_pandas), ("numpy", net.to_matrix), ("networkx", net.to_networkx),
-                           ("pandas", impact.to_pandas), ("numpy", impact.to_matrix), ("networkx", impact.to_networkx)]:
+        for name, call in [
+            ("pandas", net.to_pandas),
+            ("numpy", net.to_matrix),
+            ("networkx", net.to_networkx),
+            ("pandas", impact.to_pandas),
+            ("numpy", impact.to_matrix),
+            ("networkx", impact.to_networkx),
+        ]:
             if there(name):
                 call()
             else:
@@ -34,7 +40,11 @@ class Pandas(Case):
 
         for folder in EXAMPLES:
             with self.subTest(example=folder.name):
-                net, banks, debts = of(folder), pandas.read_csv(folder / "banks.csv"), pandas.read_csv(folder / "debts.csv")
+                net, banks, debts = (
+                    of(folder),
+                    pandas.read_csv(folder / "banks.csv"),
+                    pandas.read_csv(folder / "debts.csv"),
+                )
                 self.assertEqual(Network(banks, debts).check().text, net.check().text)
                 frames = net.to_pandas()
                 self.assertEqual(Network(frames["banks"], frames["debts"]).defaults(), net.defaults())
@@ -42,10 +52,25 @@ class Pandas(Case):
     def test_every_table_becomes_a_dataframe_with_the_same_values(self):
         net = of(HUB)
         journal = net.clear(journal=True).journal
-        results = [net.check(), net.clear(journal=True), net.central(), net.defaults(), net.bounds(), net.costs(900), net.compress(),
-                   net.stress(Scenarios.cuts([0, 500])), net.rescue("East"), net.replay(journal), net.replay([]), net.breaking(), net.impact(),
-                   net.rescues(), net.outcomes(Scenarios.cuts([0, 500])), net.cost_bounds(900),
-                   cc.generate(1, 3, 3)]
+        results = [
+            net.check(),
+            net.clear(journal=True),
+            net.central(),
+            net.defaults(),
+            net.bounds(),
+            net.costs(900),
+            net.compress(),
+            net.stress(Scenarios.cuts([0, 500])),
+            net.rescue("East"),
+            net.replay(journal),
+            net.replay([]),
+            net.breaking(),
+            net.impact(),
+            net.rescues(),
+            net.outcomes(Scenarios.cuts([0, 500])),
+            net.cost_bounds(900),
+            cc.generate(1, 3, 3),
+        ]
         for result in results:
             frames = result.to_pandas()
             for name, table in result.tables().items():
@@ -76,7 +101,9 @@ class Pandas(Case):
     def test_frames_as_they_come(self):
         import pandas
 
-        banks = pandas.DataFrame({"cash": [7.0, 1.0], "rule": ["order", "order"]}, index=pandas.Index(["A", "B"], name="name"))
+        banks = pandas.DataFrame(
+            {"cash": [7.0, 1.0], "rule": ["order", "order"]}, index=pandas.Index(["A", "B"], name="name")
+        )
         debts = pandas.DataFrame({"debtor": ["A"], "creditor": ["B"], "claim": pandas.array([10], dtype="Int64")})
         debts = pandas.concat([debts, debts]).drop_duplicates()
         self.assertEqual(Network(banks, debts).clear().total, (10, 7))
@@ -104,8 +131,10 @@ class Numpy(Case):
     def test_matrices_have_the_banks_in_file_order_and_all_classes_together(self):
         import numpy
 
-        net = Network([("B", 9, "order"), ("A", 0, "order"), ("C", 1, "order")],
-                      [("A", "B", 1, 5), ("A", "B", 2, 6), ("B", "C", 1, 4)])
+        net = Network(
+            [("B", 9, "order"), ("A", 0, "order"), ("C", 1, "order")],
+            [("A", "B", 1, 5), ("A", "B", 2, 6), ("B", "C", 1, 4)],
+        )
         self.assertEqual(net.to_matrix().tolist(), [[0, 0, 4], [11, 0, 0], [0, 0, 0]])
         self.assertEqual(net.clear().to_matrix().tolist(), [[0, 0, 4], [0, 0, 0], [0, 0, 0]])
         self.assertEqual(net.bounds().to_matrix("least").tolist(), [[0, 0, 4], [0, 0, 0], [0, 0, 0]])
@@ -128,8 +157,17 @@ class Numpy(Case):
     def test_numbers_of_numpy(self):
         import numpy
 
-        banks = {"name": numpy.array(["A", "B"]), "cash": numpy.array([7, 10**12], dtype="uint64"), "rule": ["order", "order"]}
-        debts = {"debtor": ["A"], "creditor": ["B"], "class": numpy.array([1], dtype="int8"), "claim": numpy.float64([10])}
+        banks = {
+            "name": numpy.array(["A", "B"]),
+            "cash": numpy.array([7, 10**12], dtype="uint64"),
+            "rule": ["order", "order"],
+        }
+        debts = {
+            "debtor": ["A"],
+            "creditor": ["B"],
+            "class": numpy.array([1], dtype="int8"),
+            "claim": numpy.float64([10]),
+        }
         self.assertEqual(Network(banks, debts).clear().total, (10, 7))
         for wrong in (numpy.float64(7.5), numpy.bool_(True), numpy.nan, numpy.array([7])):
             with self.assertRaises(TableError):
@@ -157,11 +195,16 @@ class Networkx(Case):
         self.assertEqual(graph.edges["East", "Hub", 1]["greatest"], 80)
         self.assertEqual(net.compress().to_networkx().number_of_edges(), len(net.debts))
         graph = net.cost_bounds(1000).to_networkx()
-        self.assertEqual((graph.edges["East", "Hub", 1]["greatest"], graph.nodes["Hub"]["state_at_greatest"]), (80, "sound"))
+        self.assertEqual(
+            (graph.edges["East", "Hub", 1]["greatest"], graph.nodes["Hub"]["state_at_greatest"]), (80, "sound")
+        )
         impact = net.impact()
         graph = impact.to_networkx()
         self.assertEqual(graph.nodes["Hub"], dict(zip(impact.banks.columns[1:], impact.banks[0][1:])))
-        self.assertEqual({(bank, of): each["lost"] for bank, of, each in graph.edges(data=True)}, {pair[:2]: pair.lost for pair in impact.pairs})
+        self.assertEqual(
+            {(bank, of): each["lost"] for bank, of, each in graph.edges(data=True)},
+            {pair[:2]: pair.lost for pair in impact.pairs},
+        )
         # A result of a text alone has its own banks.
         self.assertEqual(cc.read(net.clear().text).to_networkx().nodes["Hub"], {})
 

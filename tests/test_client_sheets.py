@@ -96,7 +96,7 @@ SQL_RIGHT = {
     "unit": "0.5",
 }
 BIS = (
-    'Consolidated positions,,,\nUSD millions,,,\nReporting country,assets,liabilities,cash\nAT,700.5,600,10\n'
+    "Consolidated positions,,,\nUSD millions,,,\nReporting country,assets,liabilities,cash\nAT,700.5,600,10\n"
     'BE,300,400.25,20\nCH,500,600,0\nAll countries,"1,500.5","1,600.25",30\n'
 )
 TEXTS = [
@@ -135,8 +135,10 @@ TEXTS = [
         "list",
         SQL,
         {**SQL_WORDS, "sum": True, "duplicates": "once", "ignore": "instrument"},
-        "column as_of: lines of one debt differ here, such as row 4 with '2025-12-31 00:00:00' and row 5 with "
-        "'2025-09-30 00:00:00'",
+        (
+            "column as_of: lines of one debt differ here, such as row 4 with '2025-12-31 00:00:00' and row 5 with "
+            "'2025-09-30 00:00:00'"
+        ),
     ),
     (
         "a query of two instruments",
@@ -315,9 +317,9 @@ class Sheets(Case):
         files = iter(range(10))
         as_file = lambda value: self.file(f"o{next(files)}.csv", value) if isinstance(value, bytes) else value
         return {
-            option: {column: as_file(one) for column, one in value.items()}
-            if isinstance(value, dict)
-            else as_file(value)
+            option: (
+                {column: as_file(one) for column, one in value.items()} if isinstance(value, dict) else as_file(value)
+            )
             for option, value in options.items()
         }
 
@@ -404,7 +406,11 @@ class Faults(Case):
             named = {key: self.file(f"{key}.csv", text) for key, text in options.items()}
             with self.assertRaises(cc.SheetError) as caught:
                 getattr(cc.Network, f"from_{kind}")(path, **named)
-            where = [f"--out={self.folder}/out"] if kind == "totals" else [f"--{one}={self.folder}/o" for one in ("banks", "debts")]
+            where = (
+                [f"--out={self.folder}/out"]
+                if kind == "totals"
+                else [f"--{one}={self.folder}/o" for one in ("banks", "debts")]
+            )
             words = [f"--{key}={name}" for key, name in named.items()]
             done = tool(f"clearing-from-{kind}", *words, *where, path)
             told = tuple(line.partition(": ")[2] for line in done.stderr.splitlines())
@@ -426,9 +432,10 @@ csv.field_size_limit({limit})
 def state():
     mask = os.umask(0o22)
     os.umask(mask)
-    return [csv.field_size_limit(), id(sys.stdout), id(sys.stderr), list(map(str, warnings.filters)), mask, gc.isenabled(), os.getcwd(),
-            sorted(os.environ.items()), [str(signal.getsignal(n)) for n in (1, 2, 15)], str(decimal.getcontext()), locale.getlocale(),
-            sys.getrecursionlimit()]
+    handlers = [str(signal.getsignal(n)) for n in (1, 2, 15)]
+    return [csv.field_size_limit(), id(sys.stdout), id(sys.stderr), list(map(str, warnings.filters)), mask,
+            gc.isenabled(), os.getcwd(), sorted(os.environ.items()), handlers, str(decimal.getcontext()),
+            locale.getlocale(), sys.getrecursionlimit()]
 
 import clearing_client as cc
 SHEETS = {sheets!r}
@@ -456,7 +463,11 @@ def others():
             wrong.append(str(fault))
 
 ended = threading.Event()
-threads = [threading.Thread(target=lambda: [call() == first or wrong.append("other faults") for _ in range(3)]) for _ in range(4)]
+def again():
+    for _ in range(3):
+        call() == first or wrong.append("other faults")
+
+threads = [threading.Thread(target=again) for _ in range(4)]
 other = threading.Thread(target=others)
 for one in [other, *threads]:
     one.start()
@@ -503,7 +514,11 @@ class Process(Case):
         limits, outside = [], []
         for path in sorted(PACKAGES.rglob("*.py")):
             tree = ast.parse(path.read_text(encoding="utf-8"))
-            limits += [path.name for node in ast.walk(tree) if isinstance(node, ast.Attribute) and node.attr == "field_size_limit"]
+            limits += [
+                path.name
+                for node in ast.walk(tree)
+                if isinstance(node, ast.Attribute) and node.attr == "field_size_limit"
+            ]
             for function in [node for node in ast.walk(tree) if isinstance(node, ast.FunctionDef)]:
                 text = ast.unparse(function)
                 if re.search(r"csv\.(Dict)?[rR]eader\(", text) and "with long_fields(" not in text:

@@ -4,7 +4,18 @@ import unittest
 from common import CHAIN, EXAMPLES, HUB, TWELVE, Case, files_of, printed
 
 from clearing_client import TextError, read
-from clearing_client.results import Bounds, Breaking, Check, Clearing, Compression, Converted, CostBounds, Costs, Defaults, Generated
+from clearing_client.results import (
+    Bounds,
+    Breaking,
+    Check,
+    Clearing,
+    Compression,
+    Converted,
+    CostBounds,
+    Costs,
+    Defaults,
+    Generated,
+)
 from clearing_client.results import Impact, Journal, Outcomes, Rescue, Rescues, Stress, Verdict
 
 
@@ -26,6 +37,7 @@ def standings(result, outside):
 
 def text_of(result, outside):
     """The text of a result, made from its tables alone."""
+
     def banks(table):
         return lines(table, () if outside else ("outside",))
 
@@ -67,12 +79,29 @@ class Texts(Case):
         """What each task prints for an example."""
         files = files_of(folder)
         journal = self.file("journal.csv", printed("clear", *files, "--show", "journal"))
-        scenarios = self.file("scenarios.toml", '[[scenario]]\nname = " a # "\n[[scenario]]\nname = " a # "\ncut = 700\n')
+        scenarios = self.file(
+            "scenarios.toml", '[[scenario]]\nname = " a # "\n[[scenario]]\nname = " a # "\ncut = 700\n'
+        )
         first = folder.joinpath("banks.csv").read_text(encoding="utf-8").splitlines()[1].split(",")[0]
-        for words in (["check"], ["clear", "--show", "both"], ["clear", "--show", "journal"], ["central"], ["defaults"],
-                      ["stress", "--scenarios", scenarios], ["replay", "--journal", journal], ["convert"], ["bounds"],
-                      ["rescue", "--bank", first], ["compress"], ["costs", "--keep", 900], ["cost-bounds", "--keep", 900], ["breaking"],
-                      ["impact"], ["rescues"], ["outcomes", "--scenarios", scenarios]):
+        for words in (
+            ["check"],
+            ["clear", "--show", "both"],
+            ["clear", "--show", "journal"],
+            ["central"],
+            ["defaults"],
+            ["stress", "--scenarios", scenarios],
+            ["replay", "--journal", journal],
+            ["convert"],
+            ["bounds"],
+            ["rescue", "--bank", first],
+            ["compress"],
+            ["costs", "--keep", 900],
+            ["cost-bounds", "--keep", 900],
+            ["breaking"],
+            ["impact"],
+            ["rescues"],
+            ["outcomes", "--scenarios", scenarios],
+        ):
             yield words[0], printed(*words, *files)
 
     def test_every_text_of_every_example_is_taken_apart_without_loss(self):
@@ -99,11 +128,21 @@ class Texts(Case):
 
     def test_what_is_no_number_no_state_or_no_record_is_refused_with_its_line(self):
         text = printed("defaults", *files_of(TWELVE))
-        for old, new, line in [(",2566666,", ",2566666.0,", 2), (",2566666,", ", 2566666,", 2), (",2566666,", ",٣,", 2),
-                               (",2566666,", ",-1,", 2), (",2566666,", ",,", 2), (",2566666,", ",2_566_666,", 2),
-                               (",contagion\n", ",Contagion\n", 3), ("Birk,", "Birk,1,", 3), ("Birk,", "", 3),
-                               ("total,", "Total,", 14), ("bank,estate", "bank,asset", 1), ("\nGarda", "\n\nGarda", 6),
-                               (",2566666,", f",{'9' * 41},", 2)]:
+        for old, new, line in [
+            (",2566666,", ",2566666.0,", 2),
+            (",2566666,", ", 2566666,", 2),
+            (",2566666,", ",٣,", 2),
+            (",2566666,", ",-1,", 2),
+            (",2566666,", ",,", 2),
+            (",2566666,", ",2_566_666,", 2),
+            (",contagion\n", ",Contagion\n", 3),
+            ("Birk,", "Birk,1,", 3),
+            ("Birk,", "", 3),
+            ("total,", "Total,", 14),
+            ("bank,estate", "bank,asset", 1),
+            ("\nGarda", "\n\nGarda", 6),
+            (",2566666,", f",{'9' * 41},", 2),
+        ]:
             with self.subTest(new=new):
                 self.assertIn(old, text)
                 with self.assertRaises(TextError) as caught:
@@ -130,20 +169,39 @@ class Texts(Case):
                     read(text + "\n" + more if more == text and task != "stress" else text + more)
 
     def test_verdicts_on_journals_that_are_not_lawful(self):
-        known = [("falls,3,9,8\n", ("falls", 3, 9, 8)), ("unlawful,48,632223,643335\n", ("unlawful", 48, 632223, 643335))]
+        known = [
+            ("falls,3,9,8\n", ("falls", 3, 9, 8)),
+            ("unlawful,48,632223,643335\n", ("unlawful", 48, 632223, 643335)),
+        ]
         for text, (word, entry, first, second) in known:
             verdict = read(text)
             seen = (verdict.last, verdict.stamp) if word == "falls" else (verdict.had, verdict.allowed)
-            self.assertEqual((verdict.verdict, verdict.entry, seen, verdict.lawful), (word, entry, (first, second), False))
+            self.assertEqual(
+                (verdict.verdict, verdict.entry, seen, verdict.lawful), (word, entry, (first, second), False)
+            )
         self.assertEqual(read("unfinished,A b\n").bank, "A b")
 
     def test_banks_named_like_words_of_the_texts(self):
         banks = self.file("b.csv", "name,cash,rule\ntotal,7,order\ncash,1,order\nscenario,0,order\nrounds,0,order\n")
-        debts = self.file("d.csv", "debtor,creditor,class,claim\ntotal,cash,1,10\ncash,scenario,1,9\nrounds,total,1,0\n")
+        debts = self.file(
+            "d.csv", "debtor,creditor,class,claim\ntotal,cash,1,10\ncash,scenario,1,9\nrounds,total,1,0\n"
+        )
         scenarios = self.file("s.toml", '[[scenario]]\nname = "cash"\n')
-        for words in (["check"], ["clear", "--show", "both"], ["defaults"], ["stress", "--scenarios", scenarios], ["bounds"],
-                      ["rescue", "--bank", "total"], ["compress"], ["costs", "--keep", 1], ["cost-bounds", "--keep", 1], ["breaking"],
-                      ["impact"], ["rescues"], ["outcomes", "--scenarios", scenarios]):
+        for words in (
+            ["check"],
+            ["clear", "--show", "both"],
+            ["defaults"],
+            ["stress", "--scenarios", scenarios],
+            ["bounds"],
+            ["rescue", "--bank", "total"],
+            ["compress"],
+            ["costs", "--keep", 1],
+            ["cost-bounds", "--keep", 1],
+            ["breaking"],
+            ["impact"],
+            ["rescues"],
+            ["outcomes", "--scenarios", scenarios],
+        ):
             text = printed(*words, "--banks", banks, "--debts", debts)
             self.assertEqual(text_of(read(text), False), text)
 

@@ -1,4 +1,5 @@
-"""The packages and the scripts beside them are typed, a program that uses the packages wrongly is told apart, and no name is idle."""
+"""The packages and the scripts beside them are typed, a program that uses the packages wrongly is told apart, and no
+name is idle."""
 import ast
 import builtins
 import configparser
@@ -14,6 +15,9 @@ from common import ROOT, Case
 MYPY, FLAKE8 = shutil.which("mypy"), shutil.which("flake8")
 SOURCES = sorted((ROOT / "python/src").rglob("*.py"))
 SCRIPTS = sorted([ROOT / "python/build.py", *(ROOT / "bench").rglob("*.py"), *(ROOT / "tools/dev").glob("*.py")])
+TESTS = sorted((ROOT / "tests").rglob("*.py"))
+# Scripts of pages, and their tests.
+PAGES = sorted([*(ROOT / "python/src").rglob("*.mjs"), *(ROOT / "tests").rglob("*.mjs")])
 # What is checked at once, seen from python/: two of the scripts are called build.
 AT_ONCE = (["src", "build.py", "../bench"], ["../tools/dev"])
 
@@ -64,16 +68,31 @@ class Types(Case):
             path = self.folder / ("python/build.py" if str(room) == "python" else room / f"untyped{number}.py")
             with open(path, "a", encoding="utf-8") as file:
                 file.write("\n\ndef same(value):\n    return value\n")
-        lines = [line for words in AT_ONCE for line in self.mypy(*words, cwd=self.folder / "python").stdout.splitlines()]
-        found = [(self.folder / "python" / line.partition(":")[0]).resolve() for line in lines if line.endswith("[no-untyped-def]")]
-        self.assertEqual(sorted(path.parent.relative_to(self.folder.resolve()) for path in found), rooms, "\n".join(lines))
+        lines = [
+            line for words in AT_ONCE for line in self.mypy(*words, cwd=self.folder / "python").stdout.splitlines()
+        ]
+        found = [
+            (self.folder / "python" / line.partition(":")[0]).resolve()
+            for line in lines
+            if line.endswith("[no-untyped-def]")
+        ]
+        self.assertEqual(
+            sorted(path.parent.relative_to(self.folder.resolve()) for path in found), rooms, "\n".join(lines)
+        )
 
     def test_who_uses_it_sees_the_types(self):
-        right = "import clearing_client as cc\nnet = cc.Network({'A': 7}, [])\npaid: int = net.clear().payments[0].paid\n"
+        right = (
+            "import clearing_client as cc\nnet = cc.Network({'A': 7}, [])\npaid: int = net.clear().payments[0].paid\n"
+        )
         done = self.mypy(self.file("right.py", right))
         self.assertEqual(done.returncode, 0, done.stdout + done.stderr)
-        for wrong in ("paid: str = net.clear().payments[0].paid\n", "net.clear(workers='4')\n", "net.cleared()\n",
-                      "net.defaults().payments\n", "net.stress(7)\n"):
+        for wrong in (
+            "paid: str = net.clear().payments[0].paid\n",
+            "net.clear(workers='4')\n",
+            "net.cleared()\n",
+            "net.defaults().payments\n",
+            "net.stress(7)\n",
+        ):
             done = self.mypy(self.file("wrong.py", right + wrong))
             self.assertEqual((done.returncode, done.stdout.count("error:")), (1, 1), done.stdout + done.stderr)
 
@@ -100,14 +119,17 @@ class Sources(unittest.TestCase):
             for line in path.read_text(encoding="utf-8").split("\n"):
                 if re.search(r"\bAny\b", line) and not re.match(r"(from typing import|    [\w, ]+,$)", line):
                     found.setdefault(path.name, []).append(line.strip())
-        self.assertEqual(found, {
-            "case.py": ['def of_files(cls, banks: File, debts: File, **more: Any) -> "Case":'],
-            "table.py": ["def column(self, name: str) -> List[Any]:"],
-        })
+        self.assertEqual(
+            found,
+            {
+                "case.py": ['def of_files(cls, banks: File, debts: File, **more: Any) -> "Case":'],
+                "table.py": ["def column(self, name: str) -> List[Any]:"],
+            },
+        )
 
     def test_names_say_what_they_are(self):
-        """What a command line says is `args`, an exception ends with Error or Warning, no local is a bare participle, and no module
-        but `format` has the name of something that Python has built in."""
+        """What a command line says is `args`, an exception ends with Error or Warning, no local is a bare participle,
+        and no module but `format` has the name of something that Python has built in."""
         riddles, parsed = [], 0
         for path in SOURCES:
             if path.stem in dir(builtins) and path.stem != "format":
@@ -116,13 +138,29 @@ class Sources(unittest.TestCase):
                 if isinstance(node, (ast.arg, ast.Name)):
                     is_bound = isinstance(node, ast.arg) or isinstance(node.ctx, ast.Store)
                     name = node.arg if isinstance(node, ast.arg) else node.id
-                    riddles += [f"{path.name}:{node.lineno} {name}"] if is_bound and name in ("asked", "told", "said", "wanted") else []
+                    riddles += (
+                        [f"{path.name}:{node.lineno} {name}"]
+                        if is_bound and name in ("asked", "told", "said", "wanted")
+                        else []
+                    )
                 if isinstance(node, ast.ClassDef):
                     is_fault = any(ast.unparse(base).endswith(("Error", "Exception", "Warning")) for base in node.bases)
-                    riddles += [f"{path.name} {node.name}"] if is_fault and not node.name.endswith(("Error", "Warning")) else []
-                if isinstance(node, ast.Assign) and isinstance(node.value, ast.Call) and ast.unparse(node.value.func).endswith("parse_args"):
+                    riddles += (
+                        [f"{path.name} {node.name}"]
+                        if is_fault and not node.name.endswith(("Error", "Warning"))
+                        else []
+                    )
+                if (
+                    isinstance(node, ast.Assign)
+                    and isinstance(node.value, ast.Call)
+                    and ast.unparse(node.value.func).endswith("parse_args")
+                ):
                     parsed += 1
-                    riddles += [f"{path.name}:{node.lineno}"] if not re.match(r"\(?(parser, )?args\b", ast.unparse(node.targets[0])) else []
+                    riddles += (
+                        [f"{path.name}:{node.lineno}"]
+                        if not re.match(r"\(?(parser, )?args\b", ast.unparse(node.targets[0]))
+                        else []
+                    )
         self.assertEqual(riddles, [])
         self.assertGreater(parsed, 15)
 
@@ -157,17 +195,23 @@ class Sources(unittest.TestCase):
         settings = configparser.ConfigParser()
         settings.read(ROOT / "python/.flake8")
         most = settings.getint("flake8", "max-line-length")
-        wide = [f"{path.relative_to(ROOT)}:{at}" for path in [*SOURCES, *SCRIPTS]
-                for at, text in enumerate(path.read_text(encoding="utf-8").split("\n"), 1) if len(text) > most]
+        wide = [
+            f"{path.relative_to(ROOT)}:{at}"
+            for path in [*SOURCES, *SCRIPTS, *TESTS, *PAGES]
+            for at, text in enumerate(path.read_text(encoding="utf-8").split("\n"), 1)
+            if len(text) > most
+        ]
         self.assertEqual((most, wide), (120, []))
+        self.assertGreater(len(PAGES), 30)
 
     def test_the_packages_and_the_scripts_have_no_idle_name(self):
         if not FLAKE8:
             self.skipTest("without flake8 (Debian's package flake8)")
-        # Lines of tests may be longer.
-        for words in (["python/src", "python/build.py", "tools/dev", "bench"], ["--max-line-length=250", "tests"]):
-            done = subprocess.run([FLAKE8, "--config", "python/.flake8", *words], cwd=ROOT, capture_output=True, encoding="utf-8")
-            self.assertEqual((done.returncode, done.stdout), (0, ""))
+        words = ["python/src", "python/build.py", "tools/dev", "bench", "tests"]
+        done = subprocess.run(
+            [FLAKE8, "--config", "python/.flake8", *words], cwd=ROOT, capture_output=True, encoding="utf-8"
+        )
+        self.assertEqual((done.returncode, done.stdout), (0, ""))
 
 
 if __name__ == "__main__":

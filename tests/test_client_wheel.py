@@ -1,4 +1,5 @@
-"""The wheel that has the program: installed without a network and without a toolchain it gives the program, all commands and both packages."""
+"""The wheel that has the program: installed without a network and without a toolchain it gives the program, all
+commands and both packages."""
 import hashlib
 import os
 import pathlib
@@ -26,12 +27,20 @@ def executable():
 
 class Wheel(Case):
     def wheel(self, program):
-        done = subprocess.run([sys.executable, "-IB", str(ROOT / "python/build.py"), str(self.folder), str(program)], capture_output=True, encoding="utf-8")
+        done = subprocess.run(
+            [sys.executable, "-IB", str(ROOT / "python/build.py"), str(self.folder), str(program)],
+            capture_output=True,
+            encoding="utf-8",
+        )
         self.assertEqual((done.returncode, done.stderr), (0, ""))
         return self.folder / done.stdout.strip()
 
     def test_its_name_says_what_the_program_wants(self):
-        for named, tag in ((b"", "manylinux_2_17"), (b"GLIBC_2.2.5\0GLIBC_2.34\0GLIBC_2.9", "manylinux_2_34"), (b"GLIBC_2.100", "manylinux_2_100")):
+        for named, tag in (
+            (b"", "manylinux_2_17"),
+            (b"GLIBC_2.2.5\0GLIBC_2.34\0GLIBC_2.9", "manylinux_2_34"),
+            (b"GLIBC_2.100", "manylinux_2_100"),
+        ):
             self.assertEqual(build.tag_of(b"\x7fELF" + named), f"py3-none-{tag}_x86_64")
         with self.assertRaises(ValueError):
             build.tag_of(b"#!/bin/sh\n")
@@ -83,8 +92,16 @@ class Wheel(Case):
         done = run(place / "bin/clearing", "--help")
         self.assertEqual((done.returncode, done.stdout), (2, b""))
         # The package and the tools find it there, before any other but what CLEARING names.
-        done = run(place / "bin/python3", "-I", "-c", "import clearing_client as cc; from clearing_tools import runner; print(cc.find_program()); print(runner.program())")
-        packed, = place.glob("lib/python3*/site-packages/clearing_client/bin/clearing")
+        done = run(
+            place / "bin/python3",
+            "-I",
+            "-c",
+            (
+                "import clearing_client as cc; from clearing_tools import runner; print(cc.find_program());"
+                " print(runner.program())"
+            ),
+        )
+        (packed,) = place.glob("lib/python3*/site-packages/clearing_client/bin/clearing")
         self.assertEqual(done.stdout.decode(), f"{packed}\n" * 2, done.stderr)
         done = run(place / "bin/clearing-breaking", *FILES)
         self.assertEqual((done.returncode, done.stdout.decode()), (0, printed("breaking", *FILES)), done.stderr)
@@ -102,7 +119,10 @@ class Wheel(Case):
         self.assertEqual((done.returncode, done.stdout, done.stderr), (0, b"2 done, 0 failed\n", b""))
         self.assertEqual((self.folder / "results/b.out").read_text(), printed("clear", *FILES, "--workers", 1))
         done = run(place / "bin/clearing-many", "slurm", "jobs.tsv", "results")
-        self.assertIn(f"CLEARING={shlex.quote(str(packed))} exec {shlex.quote(str(place / 'bin/clearing-many'))} one ".encode(), done.stdout)
+        self.assertIn(
+            f"CLEARING={shlex.quote(str(packed))} exec {shlex.quote(str(place / 'bin/clearing-many'))} one ".encode(),
+            done.stdout,
+        )
 
     @unittest.skipUnless(has_venv(), "without venv (Debian's package python3-venv)")
     def test_its_command_is_the_program_by_whatever_name_it_is_found(self):
@@ -120,7 +140,9 @@ class Wheel(Case):
             self.assertEqual((done.returncode, done.stdout.decode()), (0, printed("breaking", *FILES)), done.stderr)
             # The checksum of the program is that of what was built.
             code = "from clearing_client import find_program; from clearing_tools.evidence.parts import program_sum"
-            done = run(place / "bin/python3", "-I", "-c", f"{code}; print(find_program()); print(program_sum())", **more)
+            done = run(
+                place / "bin/python3", "-I", "-c", f"{code}; print(find_program()); print(program_sum())", **more
+            )
             found, told = done.stdout.decode().splitlines()
             self.assertEqual((pathlib.Path(found).read_bytes()[:4], told), (b"\x7fELF", digest), (named, done.stderr))
             done = run(place / "bin/clearing-many", "run", "jobs.tsv", f"results-{number}", **more)
@@ -153,7 +175,11 @@ class Wheel(Case):
         self.file("wrong", None).mkdir()
         altered = {**build.sources(), build.PLACE: program.read_bytes()}
         altered["clearing_tools/imports/generated.py"] = b"raise SystemExit(9)\n"
-        wrong = self.folder / "wrong" / build.write_wheel(self.folder / "wrong", altered, build.tag_of(altered[build.PLACE]))
+        wrong = (
+            self.folder
+            / "wrong"
+            / build.write_wheel(self.folder / "wrong", altered, build.tag_of(altered[build.PLACE]))
+        )
         for wheel, status, line in (
             (self.wheel(program), 0, "[1-9][0-9]* passed, 0 failed"),
             (wrong, 1, "0 passed, [1-9][0-9]* failed"),

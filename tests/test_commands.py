@@ -1,4 +1,5 @@
-"""The files of bin/ are those of the one list of commands, and what stood in tools/ before still runs them and is named nowhere else."""
+"""The files of bin/ are those of the one list of commands, and what stood in tools/ before still runs them and is
+named nowhere else."""
 import importlib.util
 import os
 import re
@@ -16,8 +17,14 @@ commands = importlib.util.module_from_spec(SPEC)
 SPEC.loader.exec_module(commands)
 FILES = ["--banks", HUB / "banks.csv", "--debts", HUB / "debts.csv"]
 # What speaks of the older places since that is its work.
-OF_BEFORE = {"CHANGELOG.md", "tools/_moved.py", "tools/_moved.sh", "tools/dev/commands.py", "tests/test_commands.py",
-             "python/src/clearing_tools/evidence/parts.py"}
+OF_BEFORE = {
+    "CHANGELOG.md",
+    "tools/_moved.py",
+    "tools/_moved.sh",
+    "tools/dev/commands.py",
+    "tests/test_commands.py",
+    "python/src/clearing_tools/evidence/parts.py",
+}
 
 
 def older_places(text):
@@ -53,16 +60,24 @@ class Commands(Case):
             name = "evidence.sh" if older == "evidence.py" else older
             want = self.said(run_of(now.name) if now.parent.name == "bin" else [now], word, now.name, name)
             self.assertEqual(self.said([ROOT / "tools" / older], word), want, older)
-            self.assertEqual(self.said([sys.executable if older.endswith(".py") else "sh", ROOT / "tools" / older], word), want, older)
+            self.assertEqual(
+                self.said([sys.executable if older.endswith(".py") else "sh", ROOT / "tools" / older], word),
+                want,
+                older,
+            )
         done = subprocess.run([ROOT / "tools/lint.py", *map(str, FILES)], capture_output=True, encoding="utf-8")
         self.assertEqual((done.returncode, done.stdout), (0, "no fault\n"), done.stderr)
-        done = subprocess.run([ROOT / "tools/evidence.sh", "check", self.folder / "none"], capture_output=True, encoding="utf-8")
+        done = subprocess.run(
+            [ROOT / "tools/evidence.sh", "check", self.folder / "none"], capture_output=True, encoding="utf-8"
+        )
         self.assertEqual((done.returncode, done.stderr), (3, f"evidence.sh: {self.folder}/none is no folder\n"))
 
     def said(self, run, word, name="", older=""):
         """The status of a command, and what it says by an older name, whatever its lines are."""
         done = subprocess.run([*map(str, run), word], stdin=subprocess.DEVNULL, capture_output=True, encoding="utf-8")
-        return done.returncode, *(" ".join(text.replace(name, older).split() if name else text.split()) for text in (done.stdout, done.stderr))
+        return done.returncode, *(
+            " ".join(text.replace(name, older).split() if name else text.split()) for text in (done.stdout, done.stderr)
+        )
 
     def test_nothing_names_the_places_of_before(self):
         listed = subprocess.run(["git", "-C", ROOT, "ls-files", "-z"], capture_output=True, encoding="utf-8")
@@ -76,8 +91,10 @@ class Commands(Case):
                 found.update({name: places} if places else {})
         self.assertEqual(found, {})
         self.assertGreater(read, 500)
-        self.assertEqual(older_places('tools/lint.py ROOT / "tools" / "many.sh" tools/dev/test.sh tools/test.sh tools/lint.pyx'),
-                         ["tools/lint.py", '"tools" / "many.sh"', "tools/test.sh"])
+        self.assertEqual(
+            older_places('tools/lint.py ROOT / "tools" / "many.sh" tools/dev/test.sh tools/test.sh tools/lint.pyx'),
+            ["tools/lint.py", '"tools" / "many.sh"', "tools/test.sh"],
+        )
 
     def test_a_file_that_is_not_as_listed_is_named_and_made_anew(self):
         copy = self.folder / "copy"
@@ -91,12 +108,21 @@ class Commands(Case):
         (copy / "tools/clearing.bash").write_text("kept")
         run = [sys.executable, str(copy / "tools/dev/commands.py")]
         done = subprocess.run(run, capture_output=True, encoding="utf-8")
-        self.assertEqual((done.returncode, {"bin/clearing-lint", "bin/clearing-more", "tools/lint.py", "tools/more.py"} - set(done.stdout.split())), (1, set()))
+        self.assertEqual(
+            (
+                done.returncode,
+                {"bin/clearing-lint", "bin/clearing-more", "tools/lint.py", "tools/more.py"} - set(done.stdout.split()),
+            ),
+            (1, set()),
+        )
         self.assertEqual(subprocess.run([*run, "--write"], capture_output=True).returncode, 0)
         done = subprocess.run(run, capture_output=True, encoding="utf-8")
         self.assertEqual((done.returncode, done.stdout, done.stderr), (0, "", ""))
         self.assertEqual((copy / "bin/clearing-lint").read_bytes(), (ROOT / "bin/clearing-lint").read_bytes())
-        self.assertEqual(sorted(path.name for path in (copy / "tools").iterdir() if path.is_file()), sorted([*commands.older_names(), "clearing.bash"]))
+        self.assertEqual(
+            sorted(path.name for path in (copy / "tools").iterdir() if path.is_file()),
+            sorted([*commands.older_names(), "clearing.bash"]),
+        )
         self.assertEqual((copy / "tools/clearing.bash").read_text(), "kept")
 
 

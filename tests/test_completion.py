@@ -12,14 +12,16 @@ ENVIRONMENT = {**os.environ, "LC_ALL": "C.UTF-8"}
 
 def completed(folder, line, word=None):
     """What the function offers for the end of a line."""
-    script = f'''
+    script = f"""
         source "{SCRIPT}"
         COMP_LINE=$1 COMP_POINT=${{#1}}
         _clearing clearing "$2" 2>/dev/null
         printf '%s\\n' "${{COMPREPLY[@]}}"
-    '''
+    """
     run = ["bash", "--norc", "-c", script, "bash", line, line.split(" ")[-1] if word is None else word]
-    return subprocess.run(run, cwd=folder, env=ENVIRONMENT, capture_output=True, encoding="utf-8").stdout.split("\n")[:-1]
+    return subprocess.run(run, cwd=folder, env=ENVIRONMENT, capture_output=True, encoding="utf-8").stdout.split("\n")[
+        :-1
+    ]
 
 
 def banks_of(names, end="\n"):
@@ -31,15 +33,24 @@ class Terminal:
 
     def __init__(self, folder):
         self.folder = folder
-        environment = {**ENVIRONMENT, "HOME": str(folder), "TERM": "dumb", "PS1": "", "INPUTRC": "/dev/null", "HISTFILE": ""}
+        environment = {
+            **ENVIRONMENT,
+            "HOME": str(folder),
+            "TERM": "dumb",
+            "PS1": "",
+            "INPUTRC": "/dev/null",
+            "HISTFILE": "",
+        }
         self.process, self.fd = pty.fork()
         if not self.process:
             os.chdir(folder)
             os.execvpe("bash", ["bash", "--norc", "--noprofile", "-i"], environment)
         threading.Thread(target=self.drain, daemon=True).start()
         # C-g writes down the line that is being typed.
-        self.type(f"bind 'set bell-style none'; bind -x '\"\\C-g\": printf %s \"$READLINE_LINE\" >part; mv part typed'; "
-                  f"source '{SCRIPT}'; touch ready\r")
+        self.type(
+            f"bind 'set bell-style none'; bind -x '\"\\C-g\": printf %s \"$READLINE_LINE\" >part; mv part typed'; "
+            f"source '{SCRIPT}'; touch ready\r"
+        )
         self.wait("ready")
 
     def drain(self):
@@ -79,18 +90,31 @@ class Completion(Case):
     def words_of(self, line):
         """The words of a line as the shell takes them, where it expands nothing else."""
         run = ["bash", "--norc", "-c", f"set -f; printf '%s\\0' {line}"]
-        return subprocess.run(run, cwd=self.folder, env=ENVIRONMENT, capture_output=True, encoding="utf-8").stdout.split("\0")[:-1]
+        return subprocess.run(
+            run, cwd=self.folder, env=ENVIRONMENT, capture_output=True, encoding="utf-8"
+        ).stdout.split("\0")[:-1]
 
     def test_words_are_completed(self):
         self.file("banks.csv", "name,cash,rule\nAster,1,order\nBank Two,2,order\n")
-        self.assertEqual(completed(self.folder, "clearing c"), ["check", "clear", "central", "compress", "costs", "cost-bounds", "convert"])
-        self.assertEqual(completed(self.folder, "clearing cost-bounds --banks banks.csv --"), ["--debts", "--keep", "--limits"])
-        self.assertEqual(completed(self.folder, "clearing outcomes --banks banks.csv --"), ["--debts", "--scenarios", "--limits"])
+        self.assertEqual(
+            completed(self.folder, "clearing c"),
+            ["check", "clear", "central", "compress", "costs", "cost-bounds", "convert"],
+        )
+        self.assertEqual(
+            completed(self.folder, "clearing cost-bounds --banks banks.csv --"), ["--debts", "--keep", "--limits"]
+        )
+        self.assertEqual(
+            completed(self.folder, "clearing outcomes --banks banks.csv --"), ["--debts", "--scenarios", "--limits"]
+        )
         self.assertEqual(completed(self.folder, "clearing clear --s"), ["--sweeps", "--show"])
         self.assertEqual(completed(self.folder, "clearing clear --show b"), ["both"])
         self.assertEqual(completed(self.folder, "clearing clear --show=b", "b"), ["both"])
-        self.assertEqual(completed(self.folder, "clearing costs --banks banks.csv --"), ["--debts", "--keep", "--limits"])
-        self.assertEqual(completed(self.folder, "clearing costs --banks=banks.csv --"), ["--debts", "--keep", "--limits"])
+        self.assertEqual(
+            completed(self.folder, "clearing costs --banks banks.csv --"), ["--debts", "--keep", "--limits"]
+        )
+        self.assertEqual(
+            completed(self.folder, "clearing costs --banks=banks.csv --"), ["--debts", "--keep", "--limits"]
+        )
         self.assertEqual(completed(self.folder, "clearing check --limits w"), ["wide"])
         self.assertEqual(completed(self.folder, "clearing check --limits "), ["standard", "wide"])
         self.assertNotIn("--limits", completed(self.folder, "clearing gen --seed 1 --"))
@@ -116,7 +140,12 @@ class Completion(Case):
         self.file("banks.csv", '\ufeff\r\nname,cash,rule\r\n "A B",1,order\r\n\r\n,,\r\n\tC ,1,order')
         self.assertEqual(completed(self.folder, "clearing rescue --banks banks.csv --bank "), ["A\\ B", "C"])
         (self.folder / "my 'own' $file.csv").write_text(banks_of(["Z"], "\r"))
-        for word in ["my\\ \\'own\\'\\ \\$file.csv", "\"my 'own' \\$file.csv\"", "'my '\\''own'\\'' $file.csv'", "$'my \\'own\\' $file.csv'"]:
+        for word in [
+            "my\\ \\'own\\'\\ \\$file.csv",
+            "\"my 'own' \\$file.csv\"",
+            "'my '\\''own'\\'' $file.csv'",
+            "$'my \\'own\\' $file.csv'",
+        ]:
             for line in (f"clearing rescue --banks {word} --bank ", f"clearing rescue --banks={word} --bank "):
                 self.assertEqual(completed(self.folder, line), ["Z"], line)
         for file in ("none.csv", ".", "/dev/zero", "$(touch X)"):
@@ -141,15 +170,23 @@ class Completion(Case):
             self.file("banks.csv", banks_of(["a:b c:d", "e=f g"]))
             option = "" if begin.startswith("--") else "--bank "
             words = self.words_of(terminal.completed(f"clearing rescue --banks=banks.csv {option}{begin}"))
-            self.assertEqual(words[3:] if option else [words[3].removeprefix("--bank=")], ["--bank", name][not option :])
+            self.assertEqual(
+                words[3:] if option else [words[3].removeprefix("--bank=")], ["--bank", name][not option :]
+            )
         self.assertFalse((self.folder / "X").exists())
 
     def test_each_option_of_the_completion_is_one_of_the_program(self):
         # The program refuses words that are no job with 2; here it comes as far as a file that is missing.
         files = ["--banks", "none", "--debts", "none"]
-        more = {"stress": ["--scenarios", "none"], "outcomes": ["--scenarios", "none"], "replay": ["--journal", "none"],
-                "rescue": ["--bank", "A"], "costs": ["--keep", "1"], "cost-bounds": ["--keep", "1"],
-                "gen": ["--seed", "1", "--size", "1", "--tries", "1"]}
+        more = {
+            "stress": ["--scenarios", "none"],
+            "outcomes": ["--scenarios", "none"],
+            "replay": ["--journal", "none"],
+            "rescue": ["--bank", "A"],
+            "costs": ["--keep", "1"],
+            "cost-bounds": ["--keep", "1"],
+            "gen": ["--seed", "1", "--size", "1", "--tries", "1"],
+        }
         value = {"--workers": "2", "--sweeps": "2", "--show": "both", "--limits": "wide"}
         for task in completed(self.folder, "clearing "):
             words = ([] if task == "gen" else files) + more.get(task, [])

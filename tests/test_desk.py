@@ -1,5 +1,5 @@
-"""The desk's server: every number is the program's, faults are told at their field, what is taken away says the same, and nobody else
-gets in. It wants bottle, Debian's package python3-bottle."""
+"""The desk's server: every number is the program's, faults are told at their field, what is taken away says the same,
+and nobody else gets in. It wants bottle, Debian's package python3-bottle."""
 import hashlib
 import io
 import json
@@ -23,6 +23,7 @@ from common import PACKAGES, PROGRAM, ROOT, TWELVE, Case, clearing, files_of, ne
 from desk import REASON, Running
 
 SCENARIOS = TWELVE / "scenarios.toml"
+SCENARIO = '[[scenario]]\nname = "s"\ncut = 9\n'
 SCRIPT = "<script>alert(1)</script>"
 
 
@@ -66,36 +67,57 @@ class Numbers(Desk):
             shock = self.file("s.toml", f'[[scenario]]\nname = "s"\ncut = {cut}\n')
             view = desk.change(0, set="cut", value=cut)
             self.assertEqual(view["cut"], int(cut))
-            self.assertEqual(self.held(view), [row[1:] for row in standings("stress", *files_of(TWELVE), "--scenarios",
-                shock)])
+            self.assertEqual(
+                self.held(view), [row[1:] for row in standings("stress", *files_of(TWELVE), "--scenarios", shock)]
+            )
         for number in (1, 2, 3):
             view = desk.change(0, set="scenario", value=number)
-            text = clearing("stress", *files_of(TWELVE), "--scenarios",
-                SCENARIOS).stdout.decode().split("\n\nscenario,")[number - 1]
+            text = (
+                clearing("stress", *files_of(TWELVE), "--scenarios", SCENARIOS)
+                .stdout.decode()
+                .split("\n\nscenario,")[number - 1]
+            )
             table = text[text.index("\nbank,") + 1 :].split("\n")
             self.assertEqual(self.held(view), [line.split(",")[1:] for line in table[1:13]])
         view = desk.change(0, set="keep", value="640")
         rows = standings("costs", *files_of(TWELVE), "--keep", "640")
-        self.assertEqual([[str(view[key][at]) for key in ("estate", "lost", "outsidePaid", "paid", "equity", "state")]
-            for at in range(12)],
-                         [row[1:] for row in rows])
+        self.assertEqual(
+            [
+                [str(view[key][at]) for key in ("estate", "lost", "outsidePaid", "paid", "equity", "state")]
+                for at in range(12)
+            ],
+            [row[1:] for row in rows],
+        )
         self.assertIsNone(desk.see("/state/0")["greatest"])
 
     def test_where_default_costs_both_ends_are_those_of_the_program(self):
-        outside = self.net("A,30,order,9\nB,30,webster,0\nC,5,equal,20\n", "A,B,1,100\nB,A,1,100\nB,C,2,9\n",
-            "name,cash,rule,outside")
-        for files, keep in ((files_of(ROOT / "examples/core"), 800), (files_of(ROOT / "examples/gridlock"), 500),
-                            (outside, 500), (outside, 0)):
+        outside = self.net(
+            "A,30,order,9\nB,30,webster,0\nC,5,equal,20\n", "A,B,1,100\nB,A,1,100\nB,C,2,9\n", "name,cash,rule,outside"
+        )
+        for files, keep in (
+            (files_of(ROOT / "examples/core"), 800),
+            (files_of(ROOT / "examples/gridlock"), 500),
+            (outside, 500),
+            (outside, 0),
+        ):
             view = self.desk(files).change(0, set="keep", value=str(keep))
             rows, least = standings("cost-bounds", *files, "--keep", keep), standings("costs", *files, "--keep", keep)
             keys = ("estate", "lost", "outsidePaid", "paid", "equity", "state")
-            self.assertEqual([[str(view[key][at]) for key in keys] for at in range(len(rows))],
-                [row[1:] for row in least])
+            self.assertEqual(
+                [[str(view[key][at]) for key in keys] for at in range(len(rows))], [row[1:] for row in least]
+            )
             greatest = view["greatest"]
-            self.assertEqual([[str(greatest[key][at]) for key in ("lost", "equity", "state")]
-                for at in range(len(rows))], [row[4:] for row in rows])
-            debts = [line.split(",") for line in clearing("cost-bounds", *files, "--keep",
-                keep).stdout.decode().partition("\n\n")[0].split("\n")[1:]]
+            self.assertEqual(
+                [[str(greatest[key][at]) for key in ("lost", "equity", "state")] for at in range(len(rows))],
+                [row[4:] for row in rows],
+            )
+            debts = [
+                line.split(",")
+                for line in clearing("cost-bounds", *files, "--keep", keep)
+                .stdout.decode()
+                .partition("\n\n")[0]
+                .split("\n")[1:]
+            ]
             paid = [sum(int(debt[5]) for debt in debts if debt[0] == row[0]) for row in rows]
             received = [sum(int(debt[5]) for debt in debts if debt[1] == row[0]) for row in rows]
             self.assertEqual(greatest["paid"], paid)
@@ -103,23 +125,33 @@ class Numbers(Desk):
             for at, state in enumerate(greatest["state"]):
                 lost, outside_paid = greatest["lost"][at], greatest["outsidePaid"][at]
                 self.assertEqual(greatest["estate"][at], lost + outside_paid + paid[at] + greatest["equity"][at])
-                self.assertTrue(0 <= outside_paid <= view["outside"][at]
-                    and (state != "sound" or outside_paid == view["outside"][at]))
+                self.assertTrue(
+                    0 <= outside_paid <= view["outside"][at]
+                    and (state != "sound" or outside_paid == view["outside"][at])
+                )
 
     def test_changes_of_banks_and_debts_are_cleared_as_files_that_have_them(self):
         banks, debts = (TWELVE / "banks.csv").read_text().splitlines(), (TWELVE / "debts.csv").read_text().splitlines()
         desk = self.desk()
         first = debts[1].split(",")
         steps = [
-            ({"set": "bank", "bank": 3, "field": "cash", "value": " 0077 "},
-                lambda: banks.__setitem__(4, "Dunmore,77,jefferson")),
-            ({"set": "bank", "bank": 3, "field": "rule", "value": "equal"},
-                lambda: banks.__setitem__(4, "Dunmore,77,equal")),
-            ({"set": "claim", "debt": 0, "value": "12345"}, lambda: debts.__setitem__(1,
-                ",".join([*first[:3], "12345"]))),
+            (
+                {"set": "bank", "bank": 3, "field": "cash", "value": " 0077 "},
+                lambda: banks.__setitem__(4, "Dunmore,77,jefferson"),
+            ),
+            (
+                {"set": "bank", "bank": 3, "field": "rule", "value": "equal"},
+                lambda: banks.__setitem__(4, "Dunmore,77,equal"),
+            ),
+            (
+                {"set": "claim", "debt": 0, "value": "12345"},
+                lambda: debts.__setitem__(1, ",".join([*first[:3], "12345"])),
+            ),
             ({"set": "strike", "debt": 5}, lambda: debts.pop(6)),
-            ({"set": "add", "debtor": "Kemi", "creditor": "Isar", "class": "9", "claim": "999"},
-                lambda: debts.append("Kemi,Isar,9,999")),
+            (
+                {"set": "add", "debtor": "Kemi", "creditor": "Isar", "class": "9", "claim": "999"},
+                lambda: debts.append("Kemi,Isar,9,999"),
+            ),
             ({"set": "claim", "debt": 40, "value": "7"}, lambda: debts.__setitem__(-1, "Kemi,Isar,9,7")),
             ({"set": "strike", "debt": 40}, lambda: debts.pop()),
         ]
@@ -128,8 +160,12 @@ class Numbers(Desk):
             alter()
             view = desk.change(at, **change)
             at = view["id"]
-            files = ["--banks", self.file("b.csv", "\n".join(banks) + "\n"), "--debts",
-                self.file("d.csv", "\n".join(debts) + "\n")]
+            files = [
+                "--banks",
+                self.file("b.csv", "\n".join(banks) + "\n"),
+                "--debts",
+                self.file("d.csv", "\n".join(debts) + "\n"),
+            ]
             self.assertEqual(self.held(view), [row[1:] for row in standings("defaults", *files)], change)
             self.assertEqual(desk.see(f"/take/{at}/debts").decode().splitlines(), debts)
             self.assertEqual(desk.see(f"/take/{at}/banks").decode().splitlines(), banks)
@@ -137,24 +173,32 @@ class Numbers(Desk):
         # A change back is the state as it is.
         self.assertEqual(desk.change(0, set="cut", value="0")["id"], 0)
         struck = desk.change(0, set="strike", debt=2)["id"]
-        self.assertEqual(self.held(desk.change(struck, set="strike", debt=2, again=True)),
-            self.held(desk.see("/state/0")))
+        self.assertEqual(
+            self.held(desk.change(struck, set="strike", debt=2, again=True)), self.held(desk.see("/state/0"))
+        )
 
     def test_what_is_owed_outside_is_cleared_too(self):
         files = self.net("A,3,order\nB,10,webster\nC,50,equal\n", "A,B,1,8\nB,C,1,5\nC,A,1,4\n")
         view = self.desk(files).change(0, set="bank", bank=0, field="outside", value="9")
-        other = self.net("A,3,order,9\nB,10,webster,0\nC,50,equal,0\n", "A,B,1,8\nB,C,1,5\nC,A,1,4\n",
-            "name,cash,rule,outside")
+        other = self.net(
+            "A,3,order,9\nB,10,webster,0\nC,50,equal,0\n", "A,B,1,8\nB,C,1,5\nC,A,1,4\n", "name,cash,rule,outside"
+        )
         rows = standings("defaults", *other)
-        self.assertEqual([[str(view[key][at]) for key in ("estate", "outsidePaid", "paid", "owed", "equity", "state")]
-            for at in range(3)],
-                         [row[1:] for row in rows])
+        self.assertEqual(
+            [
+                [str(view[key][at]) for key in ("estate", "outsidePaid", "paid", "owed", "equity", "state")]
+                for at in range(3)
+            ],
+            [row[1:] for row in rows],
+        )
 
     def test_what_is_asked_of_a_bank_is_what_the_tools_say(self):
         desk = self.desk()
         breaking = dict(line.split(",", 1) for line in self.made("clearing-breaking", *files_of(TWELVE)).splitlines())
-        impact = {line.split(",")[0]: line.split(",")[1:] for line in self.made("clearing-impact",
-            *files_of(TWELVE)).splitlines()}
+        impact = {
+            line.split(",")[0]: line.split(",")[1:]
+            for line in self.made("clearing-impact", *files_of(TWELVE)).splitlines()
+        }
         fallen = self.file("fallen.csv")
         self.made("clearing-impact", *files_of(TWELVE), "--ranking", self.file("r.csv"), "--defaults", fallen)
         saves = self.file("saves.csv")
@@ -169,23 +213,40 @@ class Numbers(Desk):
             one, every = desk.answer(0, "rescue", at)
             self.assertEqual(one["added"], int(rescue))
             own = [row for row in every["rows"] if row[0] == at]
-            self.assertEqual([(row[1], [names[other] for other in row[2]]) for row in own],
-                [(int(rescue), saved.get(name, []))] if int(rescue) else [], name)
+            self.assertEqual(
+                [(row[1], [names[other] for other in row[2]]) for row in own],
+                [(int(rescue), saved.get(name, []))] if int(rescue) else [],
+                name,
+            )
             cut, state = self.broken(desk, 0)[at]
             self.assertEqual(f"{1001 if cut is None else cut},{state}", breaking[name])
             [ruin] = desk.answer(0, "ruin", at)
-            self.assertEqual([str(ruin[key]) for key in ("cash", "own", "others")] + [str(len(ruin["fallen"]))],
-                impact[name])
-            by = [line.split(",")[1] for line in fallen.read_text().splitlines() if line.startswith(f"{name},")
-                and line.split(",")[1] != name]
+            self.assertEqual(
+                [str(ruin[key]) for key in ("cash", "own", "others")] + [str(len(ruin["fallen"]))], impact[name]
+            )
+            by = [
+                line.split(",")[1]
+                for line in fallen.read_text().splitlines()
+                if line.startswith(f"{name},") and line.split(",")[1] != name
+            ]
             self.assertEqual([names[other] for other in ruin["fallen"]], by)
         # All banks at once are the same.
         [ruins] = desk.answer(0, "ruin")
         self.assertEqual([[str(part) for part in row[1:]] for row in ruins["rows"]], [impact[name] for name in names])
-        self.assertEqual({names[int(at)]: [names[other] for other in of] for at, of in ruins["falls"].items()},
-                         {name: of for name in names if (of := [line.split(",")[1]
-                             for line in fallen.read_text().splitlines()[1:]
-                                                                if line.split(",")[0] == name != line.split(",")[1]])})
+        self.assertEqual(
+            {names[int(at)]: [names[other] for other in of] for at, of in ruins["falls"].items()},
+            {
+                name: of
+                for name in names
+                if (
+                    of := [
+                        line.split(",")[1]
+                        for line in fallen.read_text().splitlines()[1:]
+                        if line.split(",")[0] == name != line.split(",")[1]
+                    ]
+                )
+            },
+        )
 
     def test_banks_that_one_unit_decides_are_those_of_the_package(self):
         sys.path.insert(0, str(PACKAGES))
@@ -201,9 +262,15 @@ class Numbers(Desk):
         runs = Runs(str(self.folder))
         for number in range(40):
             names = "ABCDE"
-            files = self.net("".join(f"{name},{chosen.randrange(4)},order\n" for name in names), "".join(
-                f"{one},{other},{chosen.randrange(1, 3)},{chosen.randrange(1, 5)}\n" for one in names for other in names
-                if one != other and chosen.random() < 0.4))
+            files = self.net(
+                "".join(f"{name},{chosen.randrange(4)},order\n" for name in names),
+                "".join(
+                    f"{one},{other},{chosen.randrange(1, 3)},{chosen.randrange(1, 5)}\n"
+                    for one in names
+                    for other in names
+                    if one != other and chosen.random() < 0.4
+                ),
+            )
             desk = Table(runs, base_of(runs, str(files[1]), str(files[3]), None), Folder())
             state = states.State(cut=str(chosen.choice([0, 0, 400])))
             with Place(runs) as place:
@@ -229,7 +296,8 @@ class Numbers(Desk):
         self.assertEqual(desk.answer(at, "unit")[-1]["banks"], [1])
         self.assertEqual(self.by_costs(files, 500), [1])
         self.assertEqual(desk.answer(0, "unit", case=1)[-1]["banks"], [1, 2])
-        # Amounts twice as large come to 18 million units, for which the wide limits have room: half the unit alone moves B.
+        # Amounts twice as large come to 18 million units, for which the wide limits have room: half the unit alone
+        # moves B.
         large = "".join(f"E,C,{at},500000\nE,D,{at},500000\n" for at in range(1, 10))
         banks = "A,3,webster\nB,0,order\nC,0,order\nD,0,order\nE,9000000,order\n"
         files = self.net(banks, "A,B,1,2\nA,C,1,2\nA,D,2,10\nB,D,1,2\n" + large)
@@ -237,14 +305,21 @@ class Numbers(Desk):
 
     def by_costs(self, files, keep):
         """The banks that are otherwise in `costs` where all amounts are halved or doubled."""
+
         def places(banks, debts):
-            return [(row[-1], row[-2] != "0") for row in standings("costs", *self.net(banks, debts), "--keep", str(keep))]
+            return [
+                (row[-1], row[-2] != "0") for row in standings("costs", *self.net(banks, debts), "--keep", str(keep))
+            ]
 
         rows = [line.split(",") for line in pathlib.Path(files[1]).read_text().splitlines()[1:]]
         debts = [line.split(",") for line in pathlib.Path(files[3]).read_text().splitlines()[1:]]
-        found = [places("".join(f"{a},{scale(int(b))},{c}\n" for a, b, c in rows),
-                        "".join(f"{a},{b},{c},{scale(int(d))}\n" for a, b, c, d in debts))
-                 for scale in (lambda units: units, lambda units: round(units / 2), lambda units: 2 * units)]
+        found = [
+            places(
+                "".join(f"{a},{scale(int(b))},{c}\n" for a, b, c in rows),
+                "".join(f"{a},{b},{c},{scale(int(d))}\n" for a, b, c, d in debts),
+            )
+            for scale in (lambda units: units, lambda units: round(units / 2), lambda units: 2 * units)
+        ]
         return [at for at, here in enumerate(found[0]) if any(other[at] != here for other in found[1:])]
 
     def broken(self, desk, state):
@@ -254,8 +329,10 @@ class Numbers(Desk):
     def test_a_breaking_cut_comes_on_top_of_what_a_scenario_takes(self):
         desk = self.desk(None, "--scenarios", SCENARIOS)
         at = desk.change(0, set="scenario", value=3)["id"]
-        losses = "".join(f'[[scenario.loss]]\nbank = "{desk.see("/network")["names"][bank]}"\namount = {amount}\n'
-            for bank, amount in desk.see(f"/state/{at}")["losses"])
+        losses = "".join(
+            f'[[scenario.loss]]\nbank = "{desk.see("/network")["names"][bank]}"\namount = {amount}\n'
+            for bank, amount in desk.see(f"/state/{at}")["losses"]
+        )
         self.assertTrue(losses)
         for bank in (0, 5, 9):
             breaks, how = self.broken(desk, at)[bank]
@@ -289,36 +366,50 @@ class Numbers(Desk):
             base = base_of(runs, str(files[1]), str(files[3]), None)
             desk = Table(runs, base, Folder())
             losses = tuple((at, chosen.randrange(50)) for at in range(0, len(base.banks), 3))
-            state = states.State(cut=str(chosen.choice([0, 300, 1000])), keep=str(chosen.choice([1000, 1000, 600, 0])),
-                losses=losses)
+            state = states.State(
+                cut=str(chosen.choice([0, 300, 1000])), keep=str(chosen.choice([1000, 1000, 600, 0])), losses=losses
+            )
             found = desk.cleared(state)
             for at, bank in enumerate(found.banks):
                 one = account.account_of(base, found, at)
-                rest = one.whole - one.loss - sum(line.claim - line.paid
-                    for line in one.unpaid) - one.outside - one.lost
+                rest = (
+                    one.whole - one.loss - sum(line.claim - line.paid for line in one.unpaid) - one.outside - one.lost
+                )
                 unpaid = bank.owed + bank.outside - bank.paid - bank.outside_paid
                 self.assertEqual((one.left, rest), (bank.equity - unpaid,) * 2, (number, bank.name))
                 self.assertEqual(one.left < 0, bank.state != "sound", (number, bank.name))
                 self.assertEqual(one.loss, base.banks[at].cash - found.left[at])
-                self.assertEqual([line.claim - line.paid for line in one.unpaid],
-                    sorted((line.claim - line.paid for line in one.unpaid), reverse=True))
+                self.assertEqual(
+                    [line.claim - line.paid for line in one.unpaid],
+                    sorted((line.claim - line.paid for line in one.unpaid), reverse=True),
+                )
                 for line in one.unpaid:
-                    pair = [debt for debt in found.payments
-                        if (debt.debtor, debt.creditor) == (base.banks[line.debtor].name, bank.name)]
-                    self.assertEqual((line.claim, line.paid),
-                        (sum(debt.claim for debt in pair), sum(debt.paid for debt in pair)))
+                    pair = [
+                        debt
+                        for debt in found.payments
+                        if (debt.debtor, debt.creditor) == (base.banks[line.debtor].name, bank.name)
+                    ]
+                    self.assertEqual(
+                        (line.claim, line.paid), (sum(debt.claim for debt in pair), sum(debt.paid for debt in pair))
+                    )
                 lacking, whole = lacking + (one.left < 0), whole + 1
         self.assertGreater(lacking, 300)
         self.assertGreater(whole, lacking + 300)
 
     def drawn(self, chosen):
-        """The lines of a network drawn at random: of up to twelve banks, some of which owe something outside, in up to three classes."""
+        """The lines of a network drawn at random: of up to twelve banks, some of which owe something outside, in up
+        to three classes."""
         names = [f"B{at}" for at in range(chosen.randrange(2, 13))]
         rules = ("order", "equal", "losses", "jefferson", "webster", "adams")
-        banks = "".join(f"{name},{chosen.randrange(120)},{chosen.choice(rules)},{chosen.choice([0, 0, chosen.randrange(60)])}\n" for name in names)
+        banks = "".join(
+            f"{name},{chosen.randrange(120)},{chosen.choice(rules)},{chosen.choice([0, 0, chosen.randrange(60)])}\n"
+            for name in names
+        )
         pairs = [(one, other, rank) for one in names for other in names if one != other for rank in (1, 2, 3)]
-        debts = "".join(f"{one},{other},{rank},{chosen.randrange(90)}\n" for one, other,
-            rank in chosen.sample(pairs, min(len(pairs), 3 * len(names))))
+        debts = "".join(
+            f"{one},{other},{rank},{chosen.randrange(90)}\n"
+            for one, other, rank in chosen.sample(pairs, min(len(pairs), 3 * len(names)))
+        )
         return banks, debts
 
     def test_an_account_that_does_not_come_to_the_program_s_word_is_told(self):
@@ -346,8 +437,11 @@ class Numbers(Desk):
         for at, name in enumerate(names):
             bank = desk.see(f"/bank/0/{at}")
             for side, key in ((0, "owes"), (1, "owed")):
-                expected = [[place, names.index(debt[1 - side]), *map(int, debt[2:])] for place,
-                    debt in enumerate(debts) if debt[side] == name]
+                expected = [
+                    [place, names.index(debt[1 - side]), *map(int, debt[2:])]
+                    for place, debt in enumerate(debts)
+                    if debt[side] == name
+                ]
                 self.assertEqual(bank[key], expected)
 
     def test_the_journal_ends_in_what_is_paid(self):
@@ -392,11 +486,23 @@ class Numbers(Desk):
 
     def test_a_number_that_does_not_agree_is_told(self):
         # A program whose bounds are of another network, or whose stress takes another cut.
-        for task, words in (("bounds",
-            f'--banks={self.file("o.csv", (TWELVE / "banks.csv").read_text().replace("1500001", "1400001"))} "$3"'),
-                            ("stress",
-                                f'"$2" "$3" --scenarios={self.file("s.toml", "[[scenario]]{n}name = {q}s{q}{n}cut = 9{n}".format(n=chr(10), q=chr(34)))}')):
-            script = f'case $1 in {task}) exec {shlex.quote(PROGRAM)} {task} {words};; esac\nexec {shlex.quote(PROGRAM)} "$@"\n'
+        for task, words in (
+            (
+                "bounds",
+                f'--banks={self.file("o.csv", (TWELVE / "banks.csv").read_text().replace("1500001", "1400001"))} "$3"',
+            ),
+            (
+                "stress",
+                (
+                    '"$2" "$3"'
+                    f' --scenarios={self.file("s.toml", SCENARIO)}'
+                ),
+            ),
+        ):
+            script = (
+                f"case $1 in {task}) exec {shlex.quote(PROGRAM)} {task} {words};; esac\nexec"
+                f' {shlex.quote(PROGRAM)} "$@"\n'
+            )
             program = self.file("program", f"#!/bin/sh\n{script}")
             program.chmod(0o755)
             desk = self.desk(program=program)
@@ -416,8 +522,11 @@ class Faults(Desk):
             ({"set": "bank", "bank": 2, "field": "cash", "value": '1,2"3'}, "banks row 3: number (4)", "cash"),
             ({"set": "bank", "bank": 2, "field": "cash", "value": "٣"}, "banks row 3: number (4)", "cash"),
             ({"set": "bank", "bank": 2, "field": "cash", "value": "1000000000001"}, "banks row 3: limit (6)", "cash"),
-            ({"set": "bank", "bank": 0, "field": "outside", "value": "100000000001"}, "banks row 1: limit (6)",
-                "outside"),
+            (
+                {"set": "bank", "bank": 0, "field": "outside", "value": "100000000001"},
+                "banks row 1: limit (6)",
+                "outside",
+            ),
             ({"set": "bank", "bank": 0, "field": "rule", "value": "pro rata"}, "banks row 1: rule (5)", "rule"),
             ({"set": "claim", "debt": 6, "value": "1000001"}, "debts row 7: limit (6)", "claim"),
             ({"set": "claim", "debt": 6, "value": "1.5"}, "debts row 7: number (4)", "claim"),
@@ -426,15 +535,21 @@ class Faults(Desk):
             ({**add, "creditor": "a,b"}, "debts row 41: name (3)", "creditor"),
             ({**add, "class": "10"}, "debts row 41: class (10)", "class"),
             ({**add, "claim": "much"}, "debts row 41: number (4)", "claim"),
-            ({"set": "add", "debtor": there[0], "creditor": there[1], "class": there[2], "claim": "1"},
-                "debts row 41: double debt (11)", "creditor"),
+            (
+                {"set": "add", "debtor": there[0], "creditor": there[1], "class": there[2], "claim": "1"},
+                "debts row 41: double debt (11)",
+                "creditor",
+            ),
             ({"set": "cut", "value": "1001"}, "scenarios row 1: limit (6)", "cut"),
             ({"set": "cut", "value": "half"}, "scenarios row 1: shape (17)", "cut"),
             ({"set": "cut", "value": "9" * 20}, "scenarios row 1: shape (17)", "cut"),
             ({"set": "keep", "value": "1001"}, "'1001' is no value of --keep: it is a number from 0 to 1,000", "keep"),
             ({"set": "cut", "value": "95%"}, "scenarios row 1: shape (17)", "cut"),
-            ({"set": "keep", "value": "x"},
-                "'x' is no value of --keep: a number is 1 to 20 digits 0 to 9, and nothing else", "keep"),
+            (
+                {"set": "keep", "value": "x"},
+                "'x' is no value of --keep: a number is 1 to 20 digits 0 to 9, and nothing else",
+                "keep",
+            ),
         ]
         for change, said, field in table:
             fault = desk.change(good["id"], 422, **change)
@@ -445,21 +560,26 @@ class Faults(Desk):
 
     def test_a_fault_says_what_to_do(self):
         desk = self.desk()
-        bank, add = {"set": "bank", "bank": 2}, {"set": "add", "debtor": "Kemi", "creditor": "Isar", "class": "1",
-            "claim": "5"}
+        bank, add = {"set": "bank", "bank": 2}, {
+            "set": "add",
+            "debtor": "Kemi",
+            "creditor": "Isar",
+            "class": "1",
+            "claim": "5",
+        }
         for change, hint in (
             ({"set": "cut", "value": "95%"}, "write 950 for 95%"),
-                ({"set": "cut", "value": "12.5 %"}, "write 125 for 12.5 %"),
+            ({"set": "cut", "value": "12.5 %"}, "write 125 for 12.5 %"),
             ({"set": "cut", "value": "1001"}, "from 0 to 1,000, per mille"),
-                ({"set": "keep", "value": "80%"}, "write 800 for 80%"),
+            ({"set": "keep", "value": "80%"}, "write 800 for 80%"),
             ({**bank, "field": "cash", "value": "1.5"}, "amounts are whole units"),
-                ({**bank, "field": "cash", "value": ""}, "write 0 where there is nothing"),
+            ({**bank, "field": "cash", "value": ""}, "write 0 where there is nothing"),
             ({**bank, "field": "cash", "value": "1000000000001"}, "at most 1,000,000,000,000"),
-                ({**bank, "field": "rule", "value": "Webster"}, "write it as webster"),
+            ({**bank, "field": "rule", "value": "Webster"}, "write it as webster"),
             ({**bank, "field": "outside", "value": "100000000001"}, "at most 100,000,000,000"),
-                ({"set": "claim", "debt": 6, "value": "1000001"}, "at most 1,000,000"),
+            ({"set": "claim", "debt": 6, "value": "1000001"}, "at most 1,000,000"),
             ({**add, "claim": "1e3"}, "without an exponent"),
-                ({**add, "class": "10"}, "a class is one digit from 1 to 9"),
+            ({**add, "class": "10"}, "a class is one digit from 1 to 9"),
             ({**add, "claim": "1000001"}, "at most 1,000,000"),
         ):
             self.assertIn(hint, desk.change(0, 422, **change)["meaning"], change)
@@ -485,41 +605,99 @@ class Faults(Desk):
 
     def test_what_is_no_change_is_refused(self):
         desk = self.desk()
-        for change in ({}, {"set": "x"}, {"set": "cut"}, {"set": "cut", "value": 5},
-            {"set": "cut", "value": "1" * 201}, {"set": "cut", "value": "1\n2"},
-                       {"set": "bank", "bank": 12, "field": "cash", "value": "1"},
-                       {"set": "bank", "bank": -1, "field": "cash", "value": "1"},
-                       {"set": "bank", "bank": True, "field": "cash", "value": "1"},
-                       {"set": "bank", "bank": 0, "field": "name", "value": "1"},
-                       {"set": "scenario", "value": 1}, {"set": "claim", "debt": 40, "value": "1"}, {"set": "strike"},
-                       {"set": "add", "debtor": "A"}):
+        for change in (
+            {},
+            {"set": "x"},
+            {"set": "cut"},
+            {"set": "cut", "value": 5},
+            {"set": "cut", "value": "1" * 201},
+            {"set": "cut", "value": "1\n2"},
+            {"set": "bank", "bank": 12, "field": "cash", "value": "1"},
+            {"set": "bank", "bank": -1, "field": "cash", "value": "1"},
+            {"set": "bank", "bank": True, "field": "cash", "value": "1"},
+            {"set": "bank", "bank": 0, "field": "name", "value": "1"},
+            {"set": "scenario", "value": 1},
+            {"set": "claim", "debt": 40, "value": "1"},
+            {"set": "strike"},
+            {"set": "add", "debtor": "A"},
+        ):
             self.assertEqual(set(desk.change(0, 400, **change)), {"said", "meaning", "field"}, change)
         for start in (1, -1, "0", None, 1.0, True, 10**30):
             desk.change(start, 400, set="cut", value="1")
         for body in (b"", b"{", b"[]", b"null", b"\xff", b"[" * 60_000, b'"' + b"x" * 60_000 + b'"'):
             for path in ("/change", "/keep", "/drop", "/scenario", "/ask", "/stop"):
                 self.assertEqual(desk.ask("POST", desk.at(path), desk.own(), body)[0], 400, (path, body[:20]))
-        self.assertEqual(desk.ask("POST", desk.at("/change"), {**desk.own(), "Content-Type": "text/plain"},
-            b'{"from":0,"set":"cut","value":"1"}')[0], 400)
+        self.assertEqual(
+            desk.ask(
+                "POST",
+                desk.at("/change"),
+                {**desk.own(), "Content-Type": "text/plain"},
+                b'{"from":0,"set":"cut","value":"1"}',
+            )[0],
+            400,
+        )
 
     def test_no_value_typed_anywhere_leads_to_a_state_that_cannot_be_shown(self):
         desk = self.desk(self.net("A,9,order\nB,1,equal\nC,0,webster\n", "A,B,1,10\nB,C,1,9\n"))
-        values = ["", " ", "\t", "    ", "0", "00", "-0", "+5", "1e3", "0x1", "１", "٣", "1_0", " 7 ", "\u00a07",
-            "7\u200b", '"7"', '"', '""', "7,", ",,,", "\ufeff7", "\x00",
-                  "\u202e7", "\ud800", "NaN", "true", "9" * 20, "9" * 200, "'", ";", "\x1f", "=1+1", "0" * 19 + "7",
-                      "order", "A", "1", "#", "\u2028"]
+        values = [
+            "",
+            " ",
+            "\t",
+            "    ",
+            "0",
+            "00",
+            "-0",
+            "+5",
+            "1e3",
+            "0x1",
+            "１",
+            "٣",
+            "1_0",
+            " 7 ",
+            "\u00a07",
+            "7\u200b",
+            '"7"',
+            '"',
+            '""',
+            "7,",
+            ",,,",
+            "\ufeff7",
+            "\x00",
+            "\u202e7",
+            "\ud800",
+            "NaN",
+            "true",
+            "9" * 20,
+            "9" * 200,
+            "'",
+            ";",
+            "\x1f",
+            "=1+1",
+            "0" * 19 + "7",
+            "order",
+            "A",
+            "1",
+            "#",
+            "\u2028",
+        ]
         add = {"set": "add", "debtor": "C", "creditor": "A", "class": "2", "claim": "5"}
         changes = [{"set": word, "value": value} for word in ("cut", "keep") for value in values]
-        changes += [{"set": "bank", "bank": 1, "field": field, "value": value}
-            for field in ("cash", "rule", "outside") for value in values]
+        changes += [
+            {"set": "bank", "bank": 1, "field": field, "value": value}
+            for field in ("cash", "rule", "outside")
+            for value in values
+        ]
         changes += [{"set": "claim", "debt": 1, "value": value} for value in values]
         changes += [{**add, field: value} for field in ("debtor", "creditor", "class", "claim") for value in values]
-        changes += [{"set": "add", **dict.fromkeys(("debtor", "creditor", "class", "claim"), blank)}
-            for blank in ("", " ", "\t", "    ")]
+        changes += [
+            {"set": "add", **dict.fromkeys(("debtor", "creditor", "class", "claim"), blank)}
+            for blank in ("", " ", "\t", "    ")
+        ]
         taken = 0
         for change in changes:
-            status, _, body = desk.ask("POST", desk.at("/change"), desk.own(),
-                json.dumps({"from": 0, **change}).encode())
+            status, _, body = desk.ask(
+                "POST", desk.at("/change"), desk.own(), json.dumps({"from": 0, **change}).encode()
+            )
             self.assertIn(status, (200, 400, 422), (change, body[:200]))
             if status != 200:
                 self.assertIn("said", json.loads(body), change)
@@ -538,10 +716,13 @@ class Faults(Desk):
         self.assertGreater(taken, 20)
         # A name, a note or a scenario is a text, whatever it is.
         for value in values:
-            for path, what in (("/keep", {"state": 0, "name": value, "note": value}),
+            for path, what in (
+                ("/keep", {"state": 0, "name": value, "note": value}),
                 ("/scenario", {"name": value, "cut": value, "losses": [[0, value]]}),
-                               ("/drop", {"name": value}), ("/ask", {"state": 0, "what": value}),
-                               ("/stop", {"question": value})):
+                ("/drop", {"name": value}),
+                ("/ask", {"state": 0, "what": value}),
+                ("/stop", {"question": value}),
+            ):
                 status = desk.ask("POST", desk.at(path), desk.own(), json.dumps(what).encode())[0]
                 self.assertIn(status, (200, 400, 422), (path, value))
         for path in ("/kept", "/network", "/take/0/session", "/take/0/scenarios", "/state/0"):
@@ -553,8 +734,9 @@ class Faults(Desk):
         self.assertEqual((fault["said"], fault["field"]), ("debts row 7: number (4)", "claim"))
         for blank in ("", " "):
             fault = desk.change(0, 422, set="add", debtor=blank, creditor=blank, claim=blank, **{"class": blank})
-            self.assertEqual((fault["said"], fault["field"]),
-                ("a debt has a debtor, a creditor, a class and a claim", "creditor"))
+            self.assertEqual(
+                (fault["said"], fault["field"]), ("a debt has a debtor, a creditor, a class and a claim", "creditor")
+            )
         self.assertEqual(desk.change(0, set="cut", value="1")["id"], 1)
 
     def test_ten_thousand_changes_share_what_they_do_not_change(self):
@@ -568,8 +750,18 @@ class Faults(Desk):
         tracemalloc.start()
         try:
             for number in range(9_999):
-                change = {"from": at, "set": "claim", "debt": number, "value": "9"} if number % 2 else {
-                    "from": at, "set": "add", "debtor": "B0", "creditor": "B1", "class": "1", "claim": str(number)}
+                change = (
+                    {"from": at, "set": "claim", "debt": number, "value": "9"}
+                    if number % 2
+                    else {
+                        "from": at,
+                        "set": "add",
+                        "debtor": "B0",
+                        "creditor": "B1",
+                        "class": "1",
+                        "claim": str(number),
+                    }
+                )
                 before = steps.state(base, at)
                 state = states.changed(base, before, change)
                 at = steps.add(state, at, change, state == before)
@@ -587,17 +779,26 @@ class Faults(Desk):
         files = self.net("A,1,order\n" + "".join(f"B{at},1,order\n" for at in range(26)), debts)
         add = {"set": "add", "debtor": "A", "creditor": "B25", "class": "1", "claim": "1"}
         desk = self.desk(files, "--unit", "20000", "--currency", "EUR")
-        self.assertIn("all that banks owe is at most 25,000,000; a unit of account of EUR 200,000 has room for ten times as much: import the sheets again with"
-                      " --unit 200000", desk.change(0, 422, **add)["meaning"])
-        self.assertIn("at most 1,000,000; a unit of account of EUR 200,000",
-            desk.change(0, 422, set="claim", debt=0, value="1000001")["meaning"])
+        self.assertIn(
+            (
+                "all that banks owe is at most 25,000,000; a unit of account of EUR 200,000 has room for ten times as"
+                " much: import the sheets again with --unit 200000"
+            ),
+            desk.change(0, 422, **add)["meaning"],
+        )
+        self.assertIn(
+            "at most 1,000,000; a unit of account of EUR 200,000",
+            desk.change(0, 422, set="claim", debt=0, value="1000001")["meaning"],
+        )
         self.assertIn("a unit of account of 10 has", self.desk(files).change(0, 422, **add)["meaning"])
 
     def test_names_that_turn_the_order_of_letters_stand_as_codes(self):
         name, other = "Ban\u202ek A", "B\u2069\u202e"
-        desk = self.desk(self.net(f"{name},5,order\n{other},7,order\n", f"{name},{other},1,9\n"), "--scenarios",
-            self.file(
-            "s.toml", '[[scenario]]\nname = "S\\u202eX"\ncut = 10\n'))
+        desk = self.desk(
+            self.net(f"{name},5,order\n{other},7,order\n", f"{name},{other},1,9\n"),
+            "--scenarios",
+            self.file("s.toml", '[[scenario]]\nname = "S\\u202eX"\ncut = 10\n'),
+        )
         network = desk.see("/network")
         self.assertEqual(network["shown"], ["Ban<U+202E>k A", "B<U+2069><U+202E>"])
         self.assertEqual(network["scenarios"][0]["name"], "S<U+202E>X")
@@ -612,8 +813,11 @@ class Faults(Desk):
         for words, status, said in (
             (["--banks", faulty, "--debts", TWELVE / "debts.csv"], 4, "clearing-desk: banks row 1: number (4)\n"),
             (["--banks", self.folder / "none.csv", "--debts", TWELVE / "debts.csv"], 3, "cannot read"),
-            ([*files_of(TWELVE), "--scenarios", self.file("s.toml", "[[scenario]]\n")], 4,
-                "clearing-desk: scenarios row 1: shape (17)\n"),
+            (
+                [*files_of(TWELVE), "--scenarios", self.file("s.toml", "[[scenario]]\n")],
+                4,
+                "clearing-desk: scenarios row 1: shape (17)\n",
+            ),
             ([*files_of(TWELVE), "--labels", self.file("l.csv", "name,label\n")], 4, "the first row is not code,name"),
             ([*files_of(TWELVE), "--idle", "0"], 2, "is no number of minutes above 0"),
         ):
@@ -623,8 +827,12 @@ class Faults(Desk):
 
     def test_without_bottle_it_says_what_is_missing(self):
         program = "import sys; sys.modules['bottle'] = None; from clearing_tools.desk.server import main; main()"
-        done = subprocess.run([sys.executable, "-B", "-c", program, *map(str, files_of(TWELVE))], cwd=PACKAGES,
-            capture_output=True, encoding="utf-8")
+        done = subprocess.run(
+            [sys.executable, "-B", "-c", program, *map(str, files_of(TWELVE))],
+            cwd=PACKAGES,
+            capture_output=True,
+            encoding="utf-8",
+        )
         self.assertEqual((done.returncode, done.stdout), (2, ""))
         self.assertIn("python3-bottle", done.stderr)
 
@@ -646,13 +854,17 @@ class TakenAway(Desk):
         view = desk.change(at, set="bank", bank=0, field="cash", value="1234567")
         self.assertTrue(view["isScenario"])
         made = self.file("made.toml", desk.see(f"/take/{view['id']}/scenario"))
-        self.assertEqual([row[1:] for row in standings("stress", *files_of(TWELVE), "--scenarios", made)],
-            self.held(view))
-        for change in ({"set": "bank", "bank": 0, "field": "cash", "value": "9999999"},
+        self.assertEqual(
+            [row[1:] for row in standings("stress", *files_of(TWELVE), "--scenarios", made)], self.held(view)
+        )
+        for change in (
+            {"set": "bank", "bank": 0, "field": "cash", "value": "9999999"},
             {"set": "bank", "bank": 0, "field": "rule", "value": "equal"},
-                       {"set": "bank", "bank": 0, "field": "outside", "value": "1"}, {"set": "strike", "debt": 0},
-                       {"set": "keep", "value": "999"},
-                       {"set": "claim", "debt": 0, "value": "3"}):
+            {"set": "bank", "bank": 0, "field": "outside", "value": "1"},
+            {"set": "strike", "debt": 0},
+            {"set": "keep", "value": "999"},
+            {"set": "claim", "debt": 0, "value": "3"},
+        ):
             other = desk.change(0, **change)
             self.assertFalse(other["isScenario"], change)
             self.assertIn("are no scenario", desk.see(f"/take/{other['id']}/scenario", 502)["said"])
@@ -663,13 +875,17 @@ class TakenAway(Desk):
         desk = self.desk(None, "--scenarios", SCENARIOS, "--title", title)
         view = desk.change(0, set="cut", value="437")
         desk.post("/keep", state=view["id"], name="A hard cut", note="")
-        digests = [f"# {what}.csv has the SHA-256 {hashlib.sha256((TWELVE / f'{what}.csv').read_bytes()).hexdigest()}."
-                   for what in ("banks", "debts")]
+        digests = [
+            f"# {what}.csv has the SHA-256 {hashlib.sha256((TWELVE / f'{what}.csv').read_bytes()).hexdigest()}."
+            for what in ("banks", "debts")
+        ]
         given = SCENARIOS.read_text().count("[[scenario]]")
         for what, state, count in (("scenario", ", the state “A hard cut”.", 1), ("scenarios", ".", given)):
             text = desk.see(f"/take/{view['id']}/{what}").decode()
             program = f"clearing {(ROOT / 'VERSION').read_text().strip()}"
-            self.assertTrue(text.startswith(f"# Source: {program}, the desk. Twelve banks [[scenario]] name = "), text[:200])
+            self.assertTrue(
+                text.startswith(f"# Source: {program}, the desk. Twelve banks [[scenario]] name = "), text[:200]
+            )
             self.assertTrue(text.splitlines()[0].endswith(state), text[:200])
             self.assertEqual(text.splitlines()[1:3], digests)
             # The program reads it, and the title is a comment alone.
@@ -690,12 +906,15 @@ class TakenAway(Desk):
             archive.extractall(self.folder)
         # The changes are a scenario: the files are as they were given, and what it leaves is the state.
         for what in ("banks", "debts"):
-            self.assertEqual((self.folder / f"evidence/inputs/{what}.csv").read_bytes(),
-                (TWELVE / f"{what}.csv").read_bytes())
-        self.assertEqual((self.folder / "evidence/inputs/scenarios.toml").read_bytes(),
-            desk.see(f"/take/{view['id']}/scenario"))
-        self.assertEqual((self.folder / "evidence/scenario-1/banks.csv").read_bytes(),
-            desk.see(f"/take/{view['id']}/banks"))
+            self.assertEqual(
+                (self.folder / f"evidence/inputs/{what}.csv").read_bytes(), (TWELVE / f"{what}.csv").read_bytes()
+            )
+        self.assertEqual(
+            (self.folder / "evidence/inputs/scenarios.toml").read_bytes(), desk.see(f"/take/{view['id']}/scenario")
+        )
+        self.assertEqual(
+            (self.folder / "evidence/scenario-1/banks.csv").read_bytes(), desk.see(f"/take/{view['id']}/banks")
+        )
         self.checked(self.folder / "evidence")
         for what in ("banks", "report", "evidence"):
             disposition = desk.ask("GET", desk.at(f"/take/0/{what}"))[1]["Content-Disposition"]
@@ -703,15 +922,19 @@ class TakenAway(Desk):
 
     def checked(self, folder):
         """A folder of evidence holds by its own check, whose lines are given."""
-        done = subprocess.run([str(ROOT / "bin/clearing-evidence"), "check", str(folder)], capture_output=True,
-            encoding="utf-8")
+        done = subprocess.run(
+            [str(ROOT / "bin/clearing-evidence"), "check", str(folder)], capture_output=True, encoding="utf-8"
+        )
         self.assertEqual(done.returncode, 0, done.stdout + done.stderr)
         return done.stdout
 
     def test_the_report_and_the_evidence_say_what_was_changed(self):
         desk = self.desk(None, "--scenarios", SCENARIOS)
-        sums = [f"Before the changes {what}.csv has the SHA-256 {hashlib.sha256((TWELVE / f'{what}.csv').read_bytes()).hexdigest()}."
-                for what in ("banks", "debts")]
+        sums = [
+            f"Before the changes {what}.csv has the SHA-256"
+            f" {hashlib.sha256((TWELVE / f'{what}.csv').read_bytes()).hexdigest()}."
+            for what in ("banks", "debts")
+        ]
         names = desk.see("/network")["names"]
         debts = [line.split(",") for line in (TWELVE / "debts.csv").read_text().splitlines()[1:]]
         cash = int((TWELVE / "banks.csv").read_text().splitlines()[1].split(",")[1])
@@ -719,17 +942,30 @@ class TakenAway(Desk):
             ({"set": "scenario", "value": 3}, ["The scenario “"]),
             ({"set": "cut", "value": "950"}, ["All cash is cut by 950 per mille."]),
             ({"set": "keep", "value": "640"}, ["A bank in default keeps 640 per mille of its estate."]),
-            ({"set": "bank", "bank": 0, "field": "cash", "value": "1234567"},
-                [f"{names[0]}: cash 1,234,567 in place of {cash:,}."]),
+            (
+                {"set": "bank", "bank": 0, "field": "cash", "value": "1234567"},
+                [f"{names[0]}: cash 1,234,567 in place of {cash:,}."],
+            ),
             ({"set": "bank", "bank": 0, "field": "rule", "value": "equal"}, [f"{names[0]}: rule equal in place of "]),
-            ({"set": "bank", "bank": 1, "field": "outside", "value": "5000"},
-                [f"{names[1]}: owed outside 5,000 in place of 0."]),
-            ({"set": "claim", "debt": 0, "value": "12345"},
-             [f"{debts[0][0]} to {debts[0][1]}, class {debts[0][2]}: the debt is 12,345 in place of {int(debts[0][3]):,}."]),
-            ({"set": "strike", "debt": 5},
-                [f"{debts[5][0]} to {debts[5][1]}, class {debts[5][2]}: the debt of {int(debts[5][3]):,} is struck."]),
-            ({"set": "add", "debtor": "Kemi", "creditor": "Isar", "class": "9", "claim": "999"},
-             ["Kemi to Isar, class 9: a debt of 999 is added."]),
+            (
+                {"set": "bank", "bank": 1, "field": "outside", "value": "5000"},
+                [f"{names[1]}: owed outside 5,000 in place of 0."],
+            ),
+            (
+                {"set": "claim", "debt": 0, "value": "12345"},
+                [
+                    f"{debts[0][0]} to {debts[0][1]}, class {debts[0][2]}: the debt is 12,345 in place of"
+                    f" {int(debts[0][3]):,}."
+                ],
+            ),
+            (
+                {"set": "strike", "debt": 5},
+                [f"{debts[5][0]} to {debts[5][1]}, class {debts[5][2]}: the debt of {int(debts[5][3]):,} is struck."],
+            ),
+            (
+                {"set": "add", "debtor": "Kemi", "creditor": "Isar", "class": "9", "claim": "999"},
+                ["Kemi to Isar, class 9: a debt of 999 is added."],
+            ),
         ]
         at = 0
         for change, _ in changes:
@@ -776,24 +1012,33 @@ class Sessions(Desk):
         return path
 
     def test_a_session_has_the_case_the_states_and_their_notes_and_nothing_else(self):
-        desk = self.desk(None, "--scenarios", SCENARIOS, "--unit", "1000", "--currency", "EUR", "--title",
-            "Twelve banks")
-        number = desk.post("/scenario", name="Three at once", cut="50",
-            losses=[[10, "2000000"], [7, "4,000,000"], [8, "1000000"]])["number"]
+        desk = self.desk(
+            None, "--scenarios", SCENARIOS, "--unit", "1000", "--currency", "EUR", "--title", "Twelve banks"
+        )
+        number = desk.post(
+            "/scenario", name="Three at once", cut="50", losses=[[10, "2000000"], [7, "4,000,000"], [8, "1000000"]]
+        )["number"]
         at = desk.change(0, set="scenario", value=number)["id"]
         at = desk.change(at, set="bank", bank=1, field="cash", value="7")["id"]
         at = desk.change(at, set="claim", debt=3, value="11")["id"]
         at = desk.change(at, set="strike", debt=5)["id"]
         at = desk.change(at, set="add", debtor="Kemi", creditor="Isar", claim="3", **{"class": "9"})["id"]
         kept = desk.post("/keep", state=at, name="All of it", note="a note\nof two lines")
-        self.assertEqual(kept, [{"name": "As it is", "state": 0, "note": "", "case": 0},
-            {"name": "All of it", "state": at, "note": "a note\nof two lines", "case": 0}])
+        self.assertEqual(
+            kept,
+            [
+                {"name": "As it is", "state": 0, "note": "", "case": 0},
+                {"name": "All of it", "state": at, "note": "a note\nof two lines", "case": 0},
+            ],
+        )
         passed = desk.change(at, set="cut", value="77")["id"]
         before = desk.see(f"/state/{at}")
         path = self.saved(desk, at)
         with zipfile.ZipFile(path) as archive:
-            self.assertEqual(sorted(archive.namelist()), ["case/banks.csv", "case/datapackage.json", "case/debts.csv",
-                "case/scenarios.toml", "session.json"])
+            self.assertEqual(
+                sorted(archive.namelist()),
+                ["case/banks.csv", "case/datapackage.json", "case/debts.csv", "case/scenarios.toml", "session.json"],
+            )
             self.assertEqual(archive.read("case/banks.csv"), (TWELVE / "banks.csv").read_bytes())
             self.assertEqual(archive.read("case/scenarios.toml"), SCENARIOS.read_bytes())
             document = archive.read("session.json").decode()
@@ -804,8 +1049,15 @@ class Sessions(Desk):
         other = self.desk([], "--session", path)
         network = other.see("/network")
         self.assertEqual((network["title"], network["unit"], network["currency"]), ("Twelve banks", "1000", "EUR"))
-        self.assertEqual(network["scenarios"][-1], {"name": "Three at once", "cut": 50,
-            "losses": [[7, 4000000], [8, 1000000], [10, 2000000]], "isBuilt": True})
+        self.assertEqual(
+            network["scenarios"][-1],
+            {
+                "name": "Three at once",
+                "cut": 50,
+                "losses": [[7, 4000000], [8, 1000000], [10, 2000000]],
+                "isBuilt": True,
+            },
+        )
         [_, one] = other.see("/kept")
         self.assertEqual((one["name"], one["note"]), ("All of it", "a note\nof two lines"))
         after = other.see(f"/state/{one['state']}")
@@ -813,17 +1065,22 @@ class Sessions(Desk):
             del view["id"], view["line"]
         self.assertEqual(after, before)
         # It is saved again as it was, and it takes the same away.
-        self.assertEqual(json.loads(zipfile.ZipFile(self.saved(other, one["state"],
-            "again.zip")).read("session.json")), json.loads(document))
+        self.assertEqual(
+            json.loads(zipfile.ZipFile(self.saved(other, one["state"], "again.zip")).read("session.json")),
+            json.loads(document),
+        )
         self.assertEqual(other.see(f"/take/{one['state']}/debts"), desk.see(f"/take/{at}/debts"))
 
     def test_what_is_no_session_is_refused(self):
         good = self.saved(self.desk())
         files = {name: zipfile.ZipFile(good).read(name) for name in zipfile.ZipFile(good).namelist()}
-        state = lambda value: json.dumps({"session": 1, "states": [{"name": "s", "note": "", "state": value}],
-            "atHand": {}}).encode()  # noqa: E731
+        state = lambda value: json.dumps(
+            {"session": 1, "states": [{"name": "s", "note": "", "state": value}], "atHand": {}}
+        ).encode()  # noqa: E731
         table = [
-            (None, 3, "cannot read"), (b"", 4, "is no session"), (b"PK\x03\x04 and so on", 4, "is no session"),
+            (None, 3, "cannot read"),
+            (b"", 4, "is no session"),
+            (b"PK\x03\x04 and so on", 4, "is no session"),
             ({**files, "session.json": b"["}, 4, "is no session"),
             ({**files, "session.json": b"[]"}, 4, "that this one can open"),
             ({**files, "session.json": b'{"session": 2}'}, 4, "that this one can open"),
@@ -838,8 +1095,11 @@ class Sessions(Desk):
             ({**files, "session.json": state([])}, 4, "other keys"),
             ({**files, "session.json": state({"losses": [[99, 1]]})}, 4, "bank is no place"),
             ({**files, "session.json": b'{"session": 1, "states": 5}'}, 4, "no list of states"),
-            ({**files, "session.json": b'{"session": 1, "scenarios": [["s", 2000, []]]}'}, 4,
-                "a cut is a whole number"),
+            (
+                {**files, "session.json": b'{"session": 1, "scenarios": [["s", 2000, []]]}'},
+                4,
+                "a cut is a whole number",
+            ),
             # More than a file may have, however small it is packed.
             ({**files, "case/banks.csv": b"x" * 168_000_000}, 4, "longer than it may be"),
             ({**files, "session.json": b" " * 70_000_000}, 4, "longer than it may be"),
@@ -853,13 +1113,20 @@ class Sessions(Desk):
                         archive.writestr(name, data)
             elif content is not None:
                 path.write_bytes(content)
-            done = tool("clearing-desk", "--session", path, "--no-browser", python=Running.__init__.__globals__["PYTHON"])
+            done = tool(
+                "clearing-desk", "--session", path, "--no-browser", python=Running.__init__.__globals__["PYTHON"]
+            )
             self.assertEqual((done.returncode, done.stdout), (status, ""), (said, done.stderr))
             self.assertIn(said, done.stderr)
         # Names that lead elsewhere are passed over.
         with zipfile.ZipFile(self.folder / "odd.zip", "w") as archive:
-            for name, data in {**files, "../evil.txt": b"x", "/tmp/desk-evil": b"x", "case/../../evil.txt": b"x",
-                               "case/more.txt": b"x"}.items():
+            for name, data in {
+                **files,
+                "../evil.txt": b"x",
+                "/tmp/desk-evil": b"x",
+                "case/../../evil.txt": b"x",
+                "case/more.txt": b"x",
+            }.items():
                 archive.writestr(name, data)
         desk = self.desk([], "--session", self.folder / "odd.zip")
         self.assertEqual(desk.see("/state/0")["id"], 0)
@@ -867,8 +1134,9 @@ class Sessions(Desk):
         self.assertFalse(os.path.exists("/tmp/desk-evil"))
 
     def test_a_state_is_taken_out_as_a_case_and_goes_on_from_there(self):
-        desk = self.desk(None, "--scenarios", SCENARIOS, "--unit", "1000", "--currency", "EUR", "--title",
-            "Twelve banks")
+        desk = self.desk(
+            None, "--scenarios", SCENARIOS, "--unit", "1000", "--currency", "EUR", "--title", "Twelve banks"
+        )
         at = desk.change(0, set="scenario", value=2)["id"]
         at = desk.change(at, set="claim", debt=3, value="11")["id"]
         desk.post("/keep", state=at, name="Two fail", note="")
@@ -876,36 +1144,61 @@ class Sessions(Desk):
             archive.extractall(self.folder)
         folder, view = self.folder / "case", desk.see(f"/state/{at}")
         document = json.loads((folder / "datapackage.json").read_text())
-        self.assertEqual((document["title"], document["clearing"]["unit"], document["clearing"]["currency"]),
-            ("Twelve banks: Two fail", "1000", "EUR"))
-        self.assertEqual(document["clearing"]["from"]["hashes"],
-            {f"{what}.csv": f"sha256:{hashlib.sha256((TWELVE / f'{what}.csv').read_bytes()).hexdigest()}"
-                                                                  for what in ("banks", "debts")})
-        self.assertIn("Birk to Calder, class 1: the debt is 11 in place of 1,000,000.",
-            document["clearing"]["from"]["changes"])
+        self.assertEqual(
+            (document["title"], document["clearing"]["unit"], document["clearing"]["currency"]),
+            ("Twelve banks: Two fail", "1000", "EUR"),
+        )
+        self.assertEqual(
+            document["clearing"]["from"]["hashes"],
+            {
+                f"{what}.csv": f"sha256:{hashlib.sha256((TWELVE / f'{what}.csv').read_bytes()).hexdigest()}"
+                for what in ("banks", "debts")
+            },
+        )
+        self.assertIn(
+            "Birk to Calder, class 1: the debt is 11 in place of 1,000,000.", document["clearing"]["from"]["changes"]
+        )
         self.assertEqual([row[1:] for row in standings("defaults", *files_of(folder))], self.held(view))
         # It opens at a desk again, with what it is worth, and stands beside another case.
         other = self.desk([folder], "--against", folder)
         network = other.see("/network")
-        self.assertEqual((network["title"], network["unit"], network["others"][0]["title"]),
-            ("Twelve banks: Two fail", "1000", "Twelve banks: Two fail"))
+        self.assertEqual(
+            (network["title"], network["unit"], network["others"][0]["title"]),
+            ("Twelve banks: Two fail", "1000", "Twelve banks: Two fail"),
+        )
         self.assertEqual(self.held(other.see("/other/1")), self.held(view))
         self.assertEqual(other.see("/other/1/3")["account"], other.see("/bank/0/3")["account"])
         # A case in another unit is not held against this one.
-        done = tool("clearing-desk", *files_of(TWELVE), "--against", folder, "--no-browser",
-            python=Running.__init__.__globals__["PYTHON"])
+        done = tool(
+            "clearing-desk",
+            *files_of(TWELVE),
+            "--against",
+            folder,
+            "--no-browser",
+            python=Running.__init__.__globals__["PYTHON"],
+        )
         self.assertEqual((done.returncode, done.stdout), (4, ""))
         self.assertIn("in another unit or currency", done.stderr)
 
     def test_a_state_that_is_kept_has_a_name_of_its_own(self):
         desk = self.desk()
         at = desk.change(0, set="cut", value="5")["id"]
-        for name, said in (("As it is", "is the name of the state as it is"), ("", "has a name"),
-                           ("   ", "has a name"), ("a\nb", "is one line"), ("a\u202eb", "can be seen"),
-                           ("a\ud800", "is one line")):
+        for name, said in (
+            ("As it is", "is the name of the state as it is"),
+            ("", "has a name"),
+            ("   ", "has a name"),
+            ("a\nb", "is one line"),
+            ("a\u202eb", "can be seen"),
+            ("a\ud800", "is one line"),
+        ):
             self.assertIn(said, desk.post("/keep", 422, state=at, name=name, note="")["said"])
-        for what in ({"state": 9, "name": "x"}, {"state": 0, "name": "x" * 65}, {"state": 0, "name": 5},
-                     {"state": 0, "name": "x", "note": "n" * 2001}, {"name": "x"}):
+        for what in (
+            {"state": 9, "name": "x"},
+            {"state": 0, "name": "x" * 65},
+            {"state": 0, "name": 5},
+            {"state": 0, "name": "x", "note": "n" * 2001},
+            {"name": "x"},
+        ):
             desk.post("/keep", 400, **what)
         for number in range(99):
             desk.post("/keep", state=at, name=f"s{number}", note="")
@@ -922,8 +1215,9 @@ class Sessions(Desk):
         self.assertEqual(desk.post("/ask", state=0, what="rescue", bank=8)["question"], number)
         self.until(lambda: desk.see(f"/question/{number}/0")["come"] == 1)
         found = desk.see(f"/question/{number}/0")
-        self.assertEqual((found["pieces"], found["of"], found["ended"]),
-            ([{"kind": "one", "bank": 8, "added": 400000}], 2, False))
+        self.assertEqual(
+            (found["pieces"], found["of"], found["ended"]), ([{"kind": "one", "bank": 8, "added": 400000}], 2, False)
+        )
         begun = time.monotonic()
         desk.post("/stop", question=number)
         self.until(lambda: desk.see(f"/question/{number}/0")["ended"])
@@ -946,51 +1240,117 @@ class Attacks(Desk):
         state, change = desk.at("/state/0"), desk.at("/change")
         table = [
             # Another name for this machine, as a page elsewhere may turn one to it.
-            *(("GET", state, {"Host": host}, None, 421) for host in (
-                f"localhost:{desk.port}", f"evil.example:{desk.port}", "127.0.0.1", "127.0.0.1:80",
-                f"127.0.0.1.nip.io:{desk.port}",
-                f"[::1]:{desk.port}", f"0.0.0.0:{desk.port}", f"127.1:{desk.port}",
-                f"127.0.0.1:{desk.port}, evil.example", "")),
+            *(
+                ("GET", state, {"Host": host}, None, 421)
+                for host in (
+                    f"localhost:{desk.port}",
+                    f"evil.example:{desk.port}",
+                    "127.0.0.1",
+                    "127.0.0.1:80",
+                    f"127.0.0.1.nip.io:{desk.port}",
+                    f"[::1]:{desk.port}",
+                    f"0.0.0.0:{desk.port}",
+                    f"127.1:{desk.port}",
+                    f"127.0.0.1:{desk.port}, evil.example",
+                    "",
+                )
+            ),
             ("GET", desk.at("/"), {"Host": f"evil.example:{desk.port}"}, None, 421),
             ("POST", change, {**own, "Host": f"evil.example:{desk.port}"}, body, 421),
             # Another page.
-            *(("POST", change, {**own, "Origin": origin}, body, 403) for origin in (
-                "http://evil.example", "null", f"https://{desk.host}", f"{here}.evil.example",
-                f"http://localhost:{desk.port}",
-                f"http://127.0.0.1:{desk.port + 1}", None, "")),
+            *(
+                ("POST", change, {**own, "Origin": origin}, body, 403)
+                for origin in (
+                    "http://evil.example",
+                    "null",
+                    f"https://{desk.host}",
+                    f"{here}.evil.example",
+                    f"http://localhost:{desk.port}",
+                    f"http://127.0.0.1:{desk.port + 1}",
+                    None,
+                    "",
+                )
+            ),
             ("GET", state, {"Origin": "http://evil.example"}, None, 403),
             ("POST", change, {**own, "Sec-Fetch-Site": "cross-site"}, body, 403),
             ("POST", change, {**own, "Sec-Fetch-Site": "same-site"}, body, 403),
             # No ticket, a wrong one, and one of a desk that was before.
-            *(("GET", path, {}, None, 403) for path in (
-                "/", "/state/0", "/network", "/script/desk.mjs", "/style/desk.css", "/take/0/banks", "/journal/0",
-                "/none", "//", "//state/0",
-                f"/{ticket}", f"/{ticket[:-1]}/state/0", f"/{ticket}x/state/0", f"/x{ticket}/state/0",
-                f"/{ticket.swapcase()}/state/0",
-                f"/{before}/state/0", f"/?token={ticket}", f"/state/0?{ticket}", f"/state/0/{ticket}/", "/%ff/state/0",
-                f"/./{ticket}/state/0", f"/x/../{ticket}/state/0", "/favicon.ico")),
+            *(
+                ("GET", path, {}, None, 403)
+                for path in (
+                    "/",
+                    "/state/0",
+                    "/network",
+                    "/script/desk.mjs",
+                    "/style/desk.css",
+                    "/take/0/banks",
+                    "/journal/0",
+                    "/none",
+                    "//",
+                    "//state/0",
+                    f"/{ticket}",
+                    f"/{ticket[:-1]}/state/0",
+                    f"/{ticket}x/state/0",
+                    f"/x{ticket}/state/0",
+                    f"/{ticket.swapcase()}/state/0",
+                    f"/{before}/state/0",
+                    f"/?token={ticket}",
+                    f"/state/0?{ticket}",
+                    f"/state/0/{ticket}/",
+                    "/%ff/state/0",
+                    f"/./{ticket}/state/0",
+                    f"/x/../{ticket}/state/0",
+                    "/favicon.ico",
+                )
+            ),
             # A cookie says nothing, whatever it is.
-            *(("GET", "/state/0", {"Cookie": value}, None, 403)
-                for value in (ticket, f"clearing_desk_{desk.port}={ticket}", "=;;\x01", "é")),
+            *(
+                ("GET", "/state/0", {"Cookie": value}, None, 403)
+                for value in (ticket, f"clearing_desk_{desk.port}={ticket}", "=;;\x01", "é")
+            ),
             ("POST", "/change", own, body, 403),
             ("POST", "/change", {**own, "Content-Length": str(10**9)}, b"", 403),
             # Ways that are none.
-            *((method, state, {}, None, 405) for method in ("PUT", "DELETE", "OPTIONS", "HEAD", "TRACE", "PATCH",
-                "CONNECT")),
+            *(
+                (method, state, {}, None, 405)
+                for method in ("PUT", "DELETE", "OPTIONS", "HEAD", "TRACE", "PATCH", "CONNECT")
+            ),
             ("GET", change, {}, None, 405),
             ("POST", state, own, b"", 405),
-            *(("GET", desk.at(path), {}, None, 404) for path in (
-                "/script/../state.py", "/script/%2e%2e/state.py", "/script/..%2fstate.py", "/script/none.mjs",
-                "/style/../../../../etc/passwd",
-                "//etc/passwd", "/take/0/../../etc/passwd", "/take/0/passwd", "/take/0/%2e%2e", "/state/1",
-                "/state/-1", "/state/99999999",
-                "/state/0x0", "/bank/0/12", "/question/0/0", "/other/0", "/other/1", "/other/1/0", "/bank/0",
-                "/etc/passwd",
-                "/state/" + "9" * 5000, "/%00", "/network/", f"/{ticket}/state/0")),
+            *(
+                ("GET", desk.at(path), {}, None, 404)
+                for path in (
+                    "/script/../state.py",
+                    "/script/%2e%2e/state.py",
+                    "/script/..%2fstate.py",
+                    "/script/none.mjs",
+                    "/style/../../../../etc/passwd",
+                    "//etc/passwd",
+                    "/take/0/../../etc/passwd",
+                    "/take/0/passwd",
+                    "/take/0/%2e%2e",
+                    "/state/1",
+                    "/state/-1",
+                    "/state/99999999",
+                    "/state/0x0",
+                    "/bank/0/12",
+                    "/question/0/0",
+                    "/other/0",
+                    "/other/1",
+                    "/other/1/0",
+                    "/bank/0",
+                    "/etc/passwd",
+                    "/state/" + "9" * 5000,
+                    "/%00",
+                    "/network/",
+                    f"/{ticket}/state/0",
+                )
+            ),
         ]
         for method, path, headers, sent, status in table:
-            got, told, text = desk.ask(method, path, {key: value for key, value in headers.items() if key != "Host"},
-                sent, headers.get("Host"))
+            got, told, text = desk.ask(
+                method, path, {key: value for key, value in headers.items() if key != "Host"}, sent, headers.get("Host")
+            )
             self.assertEqual(got, status, (method, path, headers, text[:80]))
             self.assertFalse([name for name in told if name.lower().startswith("access-control")], path)
             self.assertNotIn("Set-Cookie", told)
@@ -1002,8 +1362,9 @@ class Attacks(Desk):
         desk = self.desk()
         for cookie in ('prefs={"a":1}', "a=b; c", "=", '"', "clearing_desk=1;;;", "\x01=\x02", "a=" + "x" * 8000):
             self.assertEqual(desk.ask("GET", desk.at("/state/0"), {"Cookie": cookie})[0], 200, cookie)
-            status, told, _ = desk.ask("POST", desk.at("/change"), {**desk.own(), "Cookie": cookie},
-                b'{"from":0,"set":"cut","value":"5"}')
+            status, told, _ = desk.ask(
+                "POST", desk.at("/change"), {**desk.own(), "Cookie": cookie}, b'{"from":0,"set":"cut","value":"5"}'
+            )
             self.assertEqual((status, "Set-Cookie" in told), (200, False))
         # Nothing of the desk is in a cookie, which would go to every port of this machine.
         for path in ("/", "/state/0", "/network"):
@@ -1041,16 +1402,23 @@ class Attacks(Desk):
 
     def test_what_is_answered_has_its_headers(self):
         desk = self.desk()
-        for path in (*map(desk.at, ("/", "/state/0", "/script/desk.mjs", "/style/desk.css", "/take/0/report",
-                                    "/none")), "/none"):
+        for path in (
+            *map(desk.at, ("/", "/state/0", "/script/desk.mjs", "/style/desk.css", "/take/0/report", "/none")),
+            "/none",
+        ):
             status, headers, text = desk.ask("GET", path)
             policy = dict(part.split(" ", 1) for part in headers["Content-Security-Policy"].split("; "))
-            self.assertEqual((policy["default-src"], policy["script-src"], policy["style-src"]),
-                ("'none'", "'self'", "'self'"))
+            self.assertEqual(
+                (policy["default-src"], policy["script-src"], policy["style-src"]), ("'none'", "'self'", "'self'")
+            )
             self.assertEqual((policy["frame-ancestors"], policy["form-action"], policy["base-uri"]), ("'none'",) * 3)
-            for name, value in (("X-Content-Type-Options", "nosniff"), ("Referrer-Policy", "no-referrer"),
+            for name, value in (
+                ("X-Content-Type-Options", "nosniff"),
+                ("Referrer-Policy", "no-referrer"),
                 ("Cache-Control", "no-store"),
-                                ("Cross-Origin-Resource-Policy", "same-origin"), ("X-Frame-Options", "DENY")):
+                ("Cross-Origin-Resource-Policy", "same-origin"),
+                ("X-Frame-Options", "DENY"),
+            ):
                 self.assertEqual(headers[name], value, path)
         page = desk.see("/").decode()
         self.assertFalse(re.search(r"<script(?! (?:src|type=\"module\" src)=)", page))
@@ -1068,17 +1436,32 @@ class Attacks(Desk):
 
     def test_long_bodies_are_refused(self):
         desk = self.desk()
-        for length, body, status in (("65537", b"x" * 65_537, 413), (str(10**9), b"", 413), (str(10**14), b"", 413),
-                                     ("-1", b"", 411), ("1e3", b"", 411), ("9" * 30, b"", 411)):
+        for length, body, status in (
+            ("65537", b"x" * 65_537, 413),
+            (str(10**9), b"", 413),
+            (str(10**14), b"", 413),
+            ("-1", b"", 411),
+            ("1e3", b"", 411),
+            ("9" * 30, b"", 411),
+        ):
             with socket.create_connection(("127.0.0.1", desk.port), timeout=60) as stream:
-                head = "".join(f"{name}: {value}\r\n" for name,
-                    value in {"Host": desk.host, **desk.own(), "Content-Length": length}.items())
+                head = "".join(
+                    f"{name}: {value}\r\n"
+                    for name, value in {"Host": desk.host, **desk.own(), "Content-Length": length}.items()
+                )
                 stream.sendall(f"POST {desk.at('/change')} HTTP/1.1\r\n{head}\r\n".encode() + body)
                 stream.shutdown(socket.SHUT_WR)
                 self.assertIn(f" {status} ".encode(), stream.recv(100), length)
         self.assertEqual(desk.ask("GET", desk.at("/state/0"), {"Content-Length": "5"}, b"12345")[0], 413)
-        self.assertEqual(desk.ask("POST", desk.at("/change"),
-            {**desk.own(), "Transfer-Encoding": "chunked", "Content-Length": None}, b"0\r\n\r\n")[0], 411)
+        self.assertEqual(
+            desk.ask(
+                "POST",
+                desk.at("/change"),
+                {**desk.own(), "Transfer-Encoding": "chunked", "Content-Length": None},
+                b"0\r\n\r\n",
+            )[0],
+            411,
+        )
         with socket.create_connection(("127.0.0.1", desk.port), timeout=60) as stream:
             stream.sendall(b"GET /" + b"x" * 70_000 + b" HTTP/1.1\r\n\r\n")
             self.assertIn(b" 414 ", stream.recv(100))
@@ -1092,8 +1475,13 @@ class Attacks(Desk):
 
     def test_a_thousand_requests_have_four_runs_at_once(self):
         told = self.file("told", "")
-        program = self.file("program",
-            f'#!/bin/sh\necho + >>{told}\nsleep 0.05\n{shlex.quote(PROGRAM)} "$@"\nstatus=$?\necho - >>{told}\nexit $status\n')
+        program = self.file(
+            "program",
+            (
+                f'#!/bin/sh\necho + >>{told}\nsleep 0.05\n{shlex.quote(PROGRAM)} "$@"\nstatus=$?\necho - >>{told}\nexit'
+                " $status\n"
+            ),
+        )
         program.chmod(0o755)
         desk = self.desk(program=program)
         statuses, lock = [], threading.Lock()
@@ -1101,8 +1489,12 @@ class Attacks(Desk):
         def work(first):
             for number in range(first, 1000, 25):
                 if number < 25:
-                    got = desk.ask("POST", desk.at("/change"), desk.own(),
-                        json.dumps({"from": 0, "set": "cut", "value": str(number)}).encode())[0]
+                    got = desk.ask(
+                        "POST",
+                        desk.at("/change"),
+                        desk.own(),
+                        json.dumps({"from": 0, "set": "cut", "value": str(number)}).encode(),
+                    )[0]
                 else:
                     path = ("/state/0", "/network", "/bank/0/3", "/")[number % 4]
                     got = desk.ask("GET", desk.at(path) if number % 3 else path)[0]
@@ -1126,8 +1518,9 @@ class Attacks(Desk):
         self.assertEqual(desk.end(), (0, ""))
 
     def test_names_with_a_script_stay_names(self):
-        files = self.net(f"{SCRIPT},1,order\n<img src=x onerror=alert(1)>,0,order\n",
-            f"{SCRIPT},<img src=x onerror=alert(1)>,1,5\n")
+        files = self.net(
+            f"{SCRIPT},1,order\n<img src=x onerror=alert(1)>,0,order\n", f"{SCRIPT},<img src=x onerror=alert(1)>,1,5\n"
+        )
         desk = self.desk(files)
         for part in ("<script", "<img"):
             self.assertNotIn(part, desk.see("/journal/0")["picture"]["body"])
@@ -1174,8 +1567,13 @@ class Attacks(Desk):
 
     def test_it_ends_and_leaves_nothing(self):
         told = self.file("told", "")
-        program = self.file("program",
-            f'#!/bin/sh\ncase $1 in rescues) echo $$ >>{told}; exec sleep 60;; esac\nexec {shlex.quote(PROGRAM)} "$@"\n')
+        program = self.file(
+            "program",
+            (
+                f"#!/bin/sh\ncase $1 in rescues) echo $$ >>{told}; exec sleep 60;; esac\nexec"
+                f' {shlex.quote(PROGRAM)} "$@"\n'
+            ),
+        )
         program.chmod(0o755)
         for number in (signal.SIGINT, signal.SIGTERM):
             desk = self.desk(program=program)
@@ -1189,8 +1587,10 @@ class Attacks(Desk):
             self.assertLess(time.monotonic() - begun, 20)
             self.assertEqual(list(desk.place.iterdir()), [])
             for process in told.read_text().split():
-                self.assertFalse(os.path.exists(f"/proc/{process}")
-                    and "sleep" in pathlib.Path(f"/proc/{process}/cmdline").read_text())
+                self.assertFalse(
+                    os.path.exists(f"/proc/{process}")
+                    and "sleep" in pathlib.Path(f"/proc/{process}/cmdline").read_text()
+                )
             with self.assertRaises(ConnectionRefusedError):
                 socket.create_connection(("127.0.0.1", desk.port), timeout=5)
 
@@ -1228,14 +1628,23 @@ class Attacks(Desk):
 
     def test_the_browser_is_opened_by_a_file_of_one_s_own(self):
         shown = self.file("shown")
-        browser = self.file("browser",
-            f'#!/bin/sh\nstat -c %a "${{1#file://}}" >{shown}.part; cat "${{1#file://}}" >>{shown}.part; echo "$*" >>{shown}.part; mv {shown}.part {shown}\n')
+        browser = self.file(
+            "browser",
+            (
+                f'#!/bin/sh\nstat -c %a "${{1#file://}}" >{shown}.part; cat "${{1#file://}}" >>{shown}.part; echo "$*"'
+                f" >>{shown}.part; mv {shown}.part {shown}\n"
+            ),
+        )
         browser.chmod(0o755)
         from desk import PYTHON
 
-        process = subprocess.Popen([PYTHON, "-B", str(ROOT / "bin/clearing-desk"), *map(str, files_of(TWELVE))],
-            stdout=subprocess.PIPE, encoding="utf-8",
-                                   env={**os.environ, "BROWSER": str(browser)}, stderr=subprocess.PIPE)
+        process = subprocess.Popen(
+            [PYTHON, "-B", str(ROOT / "bin/clearing-desk"), *map(str, files_of(TWELVE))],
+            stdout=subprocess.PIPE,
+            encoding="utf-8",
+            env={**os.environ, "BROWSER": str(browser)},
+            stderr=subprocess.PIPE,
+        )
         self.addCleanup(lambda: (process.terminate(), process.communicate()))
         link = re.search("http://[^ \n]*", process.stdout.readline())[0]
         deadline = time.monotonic() + 60

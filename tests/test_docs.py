@@ -122,7 +122,9 @@ class Crates(unittest.TestCase):
         """CONTRIBUTING names them after the crate that they belong to."""
         text = (ROOT / "CONTRIBUTING.md").read_text(encoding="utf-8")
         self.assertEqual(lost_files(text), [])
-        self.assertEqual(lost_files("1. `settle` (`src/none.rt`)\n2. `settle` (`src/plan.rt`)\n"), ["settle: src/none.rt"])
+        self.assertEqual(
+            lost_files("1. `settle` (`src/none.rt`)\n2. `settle` (`src/plan.rt`)\n"), ["settle: src/none.rt"]
+        )
 
 
 def lost_files(text):
@@ -130,8 +132,11 @@ def lost_files(text):
     lost = []
     for item in re.split(r"\n(?=\d+\. |- |\n)", text):
         crates = [name for name in re.findall(r"`([a-z_]+)`", item) if (ROOT / "crates" / name).is_dir()]
-        lost += [f"{', '.join(crates)}: {file}" for file in re.findall(r"`((?:src|specs|proofs)/[\w/]+\.(?:rt|antt))`", item)
-                 if crates and not any((ROOT / "crates" / crate / file).is_file() for crate in crates)]
+        lost += [
+            f"{', '.join(crates)}: {file}"
+            for file in re.findall(r"`((?:src|specs|proofs)/[\w/]+\.(?:rt|antt))`", item)
+            if crates and not any((ROOT / "crates" / crate / file).is_file() for crate in crates)
+        ]
     return lost
 
 
@@ -141,11 +146,20 @@ class Commits(unittest.TestCase):
         shallow = subprocess.run([*git, "rev-parse", "--is-shallow-repository"], capture_output=True, encoding="utf-8")
         if shallow.stdout != "false\n":
             self.skipTest("the folder has no history")
-        named = {commit for path in [ROOT / "README.md", *(ROOT / "docs").glob("*.md")]
-                 for commit in re.findall(r"`([0-9a-f]{7})`", path.read_text(encoding="utf-8"))}
-        found = subprocess.run([*git, "cat-file", "--batch-check=%(objecttype)"], input="\n".join(sorted(named)), capture_output=True,
-                               encoding="utf-8").stdout.splitlines()
-        self.assertEqual([(name, kind) for name, kind in zip(sorted(named), found, strict=True) if kind != "commit"], [])
+        named = {
+            commit
+            for path in [ROOT / "README.md", *(ROOT / "docs").glob("*.md")]
+            for commit in re.findall(r"`([0-9a-f]{7})`", path.read_text(encoding="utf-8"))
+        }
+        found = subprocess.run(
+            [*git, "cat-file", "--batch-check=%(objecttype)"],
+            input="\n".join(sorted(named)),
+            capture_output=True,
+            encoding="utf-8",
+        ).stdout.splitlines()
+        self.assertEqual(
+            [(name, kind) for name, kind in zip(sorted(named), found, strict=True) if kind != "commit"], []
+        )
 
 
 if __name__ == "__main__":

@@ -34,8 +34,10 @@ for name in functions:
 print("logic=" + ("not-proved" if refused else "proved"))
 sys.exit(1 if refused else 0)
 """
-SOURCE = "".join(f"fn {name}() {{\n    {body}\n}}\n\n" for name, body in
-                 (("one", "1"), ("two", "2"), ("three", "above 3"), ("four", "4")))
+SOURCE = "".join(
+    f"fn {name}() {{\n    {body}\n}}\n\n"
+    for name, body in (("one", "1"), ("two", "2"), ("three", "above 3"), ("four", "4"))
+)
 
 
 class Beside(Case):

@@ -27,9 +27,11 @@ class Evidence(EvidenceCase):
         """A ring of banks of such names, short of cash."""
         banks = "name,cash,rule\n" + "".join(f"{name},{7 * place},webster\n" for place, name in enumerate(HOSTILE))
         debts = "debtor,creditor,class,claim\n" + "".join(
-            f"{name},{HOSTILE[(place + 1) % len(HOSTILE)]},1,{50 - place}\n" for place, name in enumerate(HOSTILE))
+            f"{name},{HOSTILE[(place + 1) % len(HOSTILE)]},1,{50 - place}\n" for place, name in enumerate(HOSTILE)
+        )
         scenarios = '[[scenario]]\nname = "total"\ncut = 100\n' + "".join(
-            f"[[scenario.loss]]\nbank = '''{name}'''\namount = {place}\n" for place, name in enumerate(HOSTILE))
+            f"[[scenario.loss]]\nbank = '''{name}'''\namount = {place}\n" for place, name in enumerate(HOSTILE)
+        )
         return self.files(banks, debts), self.file("s.toml", scenarios)
 
     # The banks that a scenario leaves.
@@ -38,13 +40,17 @@ class Evidence(EvidenceCase):
         place = self.folder / "bin"
         place.mkdir()
         shutil.copy(SCRIPT, place)
-        done = subprocess.run([str(place / "clearing-evidence"), "check", str(self.folder)], capture_output=True, encoding="utf-8")
+        done = subprocess.run(
+            [str(place / "clearing-evidence"), "check", str(self.folder)], capture_output=True, encoding="utf-8"
+        )
         self.assertEqual((done.returncode, done.stdout), (2, ""))
         self.assertRegex(done.stderr, r"\Aclearing-evidence: needs bin/clearing-evidence and python/src [^\n]*\n\Z")
 
     def test_a_folder_that_was_made_before_the_commands_stood_in_bin_is_checked(self):
         folder = self.folder / "evidence"
-        self.assertEqual(evidence("make", folder, "--banks", HUB / "banks.csv", "--debts", HUB / "debts.csv").returncode, 0)
+        self.assertEqual(
+            evidence("make", folder, "--banks", HUB / "banks.csv", "--debts", HUB / "debts.csv").returncode, 0
+        )
         for text, status in ((OLDER_README, 0), (OLDER_README.replace("audit.py", "other.py"), 3)):
             (folder / "README.txt").write_text(text)
             self.sums_anew(folder)
@@ -58,15 +64,33 @@ class Evidence(EvidenceCase):
         self.assertEqual((folder / "inputs/changes.txt").read_bytes(), text.read_bytes())
         done = evidence("check", folder)
         self.assertEqual(done.returncode, 0, done.stdout)
-        self.assertIn(b"not checked: that the inputs are true (inputs/banks.csv, inputs/changes.txt, inputs/debts.csv)", done.stdout)
+        self.assertIn(
+            b"not checked: that the inputs are true (inputs/banks.csv, inputs/changes.txt, inputs/debts.csv)",
+            done.stdout,
+        )
         (folder / "inputs/changes.txt").write_text("Hub: cash 4 in place of 4.\n")
         self.assertEqual(evidence("check", folder).returncode, 4)
 
     def test_a_shock_leaves_what_stress_clears(self):
         generated = [self.file("b.csv"), self.file("d.csv")]
-        self.made("clearing-gen-files", "--seed", 3, "--size", 200, "--tries", 900, "--banks", generated[0], "--debts", generated[1])
-        wild = "".join(f'[[scenario]]\nname = "{n}"\ncut = {37 * n}\n' + "".join(
-            f'[[scenario.loss]]\nbank = "N{(n * k) % 200}"\namount = {k * k}\n' for k in range(1, 9)) for n in range(1, 5))
+        self.made(
+            "clearing-gen-files",
+            "--seed",
+            3,
+            "--size",
+            200,
+            "--tries",
+            900,
+            "--banks",
+            generated[0],
+            "--debts",
+            generated[1],
+        )
+        wild = "".join(
+            f'[[scenario]]\nname = "{n}"\ncut = {37 * n}\n'
+            + "".join(f'[[scenario.loss]]\nbank = "N{(n * k) % 200}"\namount = {k * k}\n' for k in range(1, 9))
+            for n in range(1, 5)
+        )
         hostile, hostile_scenarios = self.hostile_files()
         for banks, debts, scenarios in [
             (TWELVE / "banks.csv", TWELVE / "debts.csv", TWELVE / "scenarios.toml"),
@@ -92,7 +116,10 @@ class Evidence(EvidenceCase):
         plain, marked = self.file("s.toml", SCENARIOS), self.file("marked.toml", b"\xef\xbb\xbf" + SCENARIOS.encode())
         words = ["--banks", banks, "--debts", debts, "--scenarios"]
         self.assertEqual(self.printed("stress", *words, plain), self.printed("stress", *words, marked))
-        left = [self.made("clearing-shock", "--banks", banks, "--scenarios", name, "--scenario", 2) for name in (plain, marked)]
+        left = [
+            self.made("clearing-shock", "--banks", banks, "--scenarios", name, "--scenario", 2)
+            for name in (plain, marked)
+        ]
         self.assertEqual(left[0], left[1])
         folder = self.folder / "evidence"
         done = evidence("make", folder, *words, marked, "--bank", "South")
@@ -105,20 +132,58 @@ class Evidence(EvidenceCase):
             name = self.file("more.toml", text)
             done = clearing("stress", *words, name)
             self.assertEqual((done.returncode, done.stderr), (4, b"clearing: scenarios row 0: toml (16)\n"))
-            self.refused("clearing-shock", 4, "scenarios row 0: toml (16)", "--banks", banks, "--scenarios", name, "--scenario", 1)
+            self.refused(
+                "clearing-shock",
+                4,
+                "scenarios row 0: toml (16)",
+                "--banks",
+                banks,
+                "--scenarios",
+                name,
+                "--scenario",
+                1,
+            )
 
     def test_a_scenario_that_is_refused_is_refused_alike(self):
         head = '[[scenario]]\nname = "a"\n'
-        for text in ["x", "scenario = 1", "y = 1\n[[scenario]]\nname = 'a'", "[[scenario]]\ncut = 1", head + "cut = 1001", head + "cut = -1",
-                     head + "cut = 1.0", head + "cut = true", head + "cut = 9223372036854775808", head + "[[scenario]]\nname = 'b,'",
-                     head + "[[scenario.loss]]\nbank = 'Nord'\namount = 1", head + "[[scenario.loss]]\nbank = 'South'",
-                     head + "[[scenario.loss]]\nbank = 'South'\namount = 1000000000001", head + "loss = 3", head + "other = 3",
-                     head + "[[scenario.loss]]\nbank = 'South'\namount = 1\n" * 2, head * 101, b"\xff", head + "cut = 1\n cut = 2"]:
+        for text in [
+            "x",
+            "scenario = 1",
+            "y = 1\n[[scenario]]\nname = 'a'",
+            "[[scenario]]\ncut = 1",
+            head + "cut = 1001",
+            head + "cut = -1",
+            head + "cut = 1.0",
+            head + "cut = true",
+            head + "cut = 9223372036854775808",
+            head + "[[scenario]]\nname = 'b,'",
+            head + "[[scenario.loss]]\nbank = 'Nord'\namount = 1",
+            head + "[[scenario.loss]]\nbank = 'South'",
+            head + "[[scenario.loss]]\nbank = 'South'\namount = 1000000000001",
+            head + "loss = 3",
+            head + "other = 3",
+            head + "[[scenario.loss]]\nbank = 'South'\namount = 1\n" * 2,
+            head * 101,
+            b"\xff",
+            head + "cut = 1\n cut = 2",
+        ]:
             scenarios = self.file("s.toml", text)
-            done = clearing("stress", "--banks", HUB / "banks.csv", "--debts", HUB / "debts.csv", "--scenarios", scenarios)
+            done = clearing(
+                "stress", "--banks", HUB / "banks.csv", "--debts", HUB / "debts.csv", "--scenarios", scenarios
+            )
             self.assertEqual(done.returncode, 4, text)
             message = done.stderr.decode().removeprefix("clearing: ")
-            self.refused("clearing-shock", 4, "clearing-shock: " + message, "--banks", HUB / "banks.csv", "--scenarios", scenarios, "--scenario", 1)
+            self.refused(
+                "clearing-shock",
+                4,
+                "clearing-shock: " + message,
+                "--banks",
+                HUB / "banks.csv",
+                "--scenarios",
+                scenarios,
+                "--scenario",
+                1,
+            )
 
     def test_a_shock_keeps_its_inputs(self):
         banks, scenarios = self.file("b.csv", (HUB / "banks.csv").read_bytes()), self.file("s.toml", SCENARIOS)
@@ -129,7 +194,9 @@ class Evidence(EvidenceCase):
             self.refused("clearing-shock", 2, "would be written over", *words, "--scenario", 1, "--output", output)
         self.refused("clearing-shock", 2, "none of the number 4", *words, "--scenario", 4)
         self.refused("clearing-shock", 3, "cannot read", *words[:3], self.folder / "none", "--scenario", 1)
-        self.refused("clearing-shock", 5, "cannot write", *words, "--scenario", 1, "--output", self.folder / "none" / "x")
+        self.refused(
+            "clearing-shock", 5, "cannot write", *words, "--scenario", 1, "--output", self.folder / "none" / "x"
+        )
         self.assertEqual((banks.read_bytes(), scenarios.read_text()), ((HUB / "banks.csv").read_bytes(), SCENARIOS))
 
     # Making and checking.
@@ -149,8 +216,13 @@ class Evidence(EvidenceCase):
         done = evidence("check", folder)
         self.assertEqual((done.returncode, done.stderr), (0, b""))
         told = done.stdout.decode()
-        for line in ["checksums: 31 of 31", "scenario 2: banks same", "stress.csv: same", "commands run again: 20 of 20 the same",
-                     "rescue of South with 20: sound with it, and not with a unit less"]:
+        for line in [
+            "checksums: 31 of 31",
+            "scenario 2: banks same",
+            "stress.csv: same",
+            "commands run again: 20 of 20 the same",
+            "rescue of South with 20: sound with it, and not with a unit less",
+        ]:
             self.assertIn(line + "\n", told)
         for label in ("as it is", "scenario 1", "scenario 2", "scenario 3", "rescue", "a unit less"):
             self.assertRegex(told, f"(?m)^{label}: lawful,[0-9]+; payments same; defaults same$")
@@ -158,7 +230,16 @@ class Evidence(EvidenceCase):
         self.assertNotIn("not so", told)
         # Made again it has the same bytes.
         again = self.folder / "again"
-        words = ["--banks", HUB / "banks.csv", "--debts", HUB / "debts.csv", "--scenarios", self.folder / "s.toml", "--bank", "South"]
+        words = [
+            "--banks",
+            HUB / "banks.csv",
+            "--debts",
+            HUB / "debts.csv",
+            "--scenarios",
+            self.folder / "s.toml",
+            "--bank",
+            "South",
+        ]
         self.assertEqual(evidence("make", again, *words).returncode, 0)
         self.assertEqual((again / "SHA256SUMS").read_bytes(), (folder / "SHA256SUMS").read_bytes())
 
@@ -177,7 +258,9 @@ class Evidence(EvidenceCase):
         self.made("clearing-gen-files", "--seed", 9, "--size", 200, "--tries", 600, "--banks", banks, "--debts", debts)
         scenarios = self.file("s.toml", "".join(f'[[scenario]]\nname = "{cut}"\ncut = {cut}\n' for cut in (150, 600)))
         folder = self.folder / "evidence"
-        self.assertEqual(evidence("make", folder, "--banks", banks, "--debts", debts, "--scenarios", scenarios).returncode, 0)
+        self.assertEqual(
+            evidence("make", folder, "--banks", banks, "--debts", debts, "--scenarios", scenarios).returncode, 0
+        )
         done = evidence("check", folder)
         self.assertEqual(done.returncode, 0, done.stdout)
         self.assertEqual(done.stdout.count(b"; payments same; defaults same\n"), 3)
@@ -185,7 +268,7 @@ class Evidence(EvidenceCase):
     # What is altered.
 
     def test_each_kind_of_alteration_has_its_status(self):
-        folder = self.hub(SCENARIOS.split("[[scenario]]\nname = \" South")[0])
+        folder = self.hub(SCENARIOS.split('[[scenario]]\nname = " South')[0])
         kept = {path: path.read_bytes() for path in folder.rglob("*") if path.is_file()}
 
         def altered(name, old, new, count=1):
@@ -217,13 +300,27 @@ class Evidence(EvidenceCase):
         # Where the checksums are made anew, the rest is found by what the files say.
         for name, old, new, status, *said in (
             ("scenario-1/banks.csv", ",webster", ",order", 5, "scenario 1: banks differ"),
-            ("scenario-1/journal.csv", "\nrounds", "\n9,South,Hub,1,1\nrounds", 6, "scenario 1: raise ", "not so: each journal is lawful"),
+            (
+                "scenario-1/journal.csv",
+                "\nrounds",
+                "\n9,South,Hub,1,1\nrounds",
+                6,
+                "scenario 1: raise ",
+                "not so: each journal is lawful",
+            ),
             ("as-is/journal.csv", "\n1,", "\n1,Nobody,", 6, "as it is: audit.py: journal row 1: fields (2)"),
             ("scenario-1/payments.csv", ",paid\n", ",paid \n", 7, "scenario 1: lawful,", "payments differ: line 1"),
             ("unit-less/defaults.csv", "sound", "contagion", 7, "defaults differ"),
             ("rescue/rescue.csv", "short,1", "short,2", 7, "rescue of South with 20: not what the tables say"),
             ("stress.csv", "scenario,half", "scenario,hall", 7, "stress.csv: differs"),
-            ("as-is/journal.csv", "rounds,", "rounds,1", 8, "commands run again: as-is/journal.csv differs", "checked: each journal is lawful"),
+            (
+                "as-is/journal.csv",
+                "rounds,",
+                "rounds,1",
+                8,
+                "commands run again: as-is/journal.csv differs",
+                "checked: each journal is lawful",
+            ),
             ("commands.tsv", "\t0\t", "\t1\t", 3, "commands.tsv: not the commands"),
             ("inputs/debts.csv", "debtor", "Debtor", 3, "inputs: debts row 0: header (1)"),
         ):
@@ -258,10 +355,19 @@ class Evidence(EvidenceCase):
         (commands / "rt").write_text("#!/bin/sh\necho kit\n")
         environment = {**os.environ, "PATH": f"{commands}:{os.environ['PATH']}", "GIT_CONFIG_GLOBAL": os.devnull}
         git = lambda *words: subprocess.run(
-            ["git", "-c", "user.name=a", "-c", "user.email=a@b", *words], cwd=root, check=True, capture_output=True, env=environment)
+            ["git", "-c", "user.name=a", "-c", "user.email=a@b", *words],
+            cwd=root,
+            check=True,
+            capture_output=True,
+            env=environment,
+        )
         git("init", "--quiet")
         sums = []
-        for content, status, said in [("true program", 0, "the same bytes\n"), ("$PWD", 1, "the programs differ\n"), (None, 1, "no rt\n")]:
+        for content, status, said in [
+            ("true program", 0, "the same bytes\n"),
+            ("$PWD", 1, "the programs differ\n"),
+            (None, 1, "no rt\n"),
+        ]:
             make = f'mkdir -p crates/clear_main/out; echo "{content}" >crates/clear_main/out/clear_main'
             (root / "clearing").write_text("#!/bin/sh\n" + (make if content else "echo no rt >&2; exit 8") + "\n")
             for path in (root / "clearing", script, commands / "rt"):
@@ -287,8 +393,14 @@ class Evidence(EvidenceCase):
         place.mkdir()
         words = ["make", place / "evidence", "--banks", HUB / "banks.csv", "--debts", HUB / "debts.csv"]
         # A program that fails, and one that lies, each on one task alone.
-        for task, lie, status in [("defaults", "exit 6", 1), ("stress", "echo x; exit 0", 1), ("rescue", "printf 'rescue,South,1\\nshort,1\\n\\n'", 1)]:
-            program = self.file("program", f'#!/bin/sh\nif [ "$1" = {task} ]; then {lie}; else exec {shlex.quote(PROGRAM)} "$@"; fi\n')
+        for task, lie, status in [
+            ("defaults", "exit 6", 1),
+            ("stress", "echo x; exit 0", 1),
+            ("rescue", "printf 'rescue,South,1\\nshort,1\\n\\n'", 1),
+        ]:
+            program = self.file(
+                "program", f'#!/bin/sh\nif [ "$1" = {task} ]; then {lie}; else exec {shlex.quote(PROGRAM)} "$@"; fi\n'
+            )
             program.chmod(0o755)
             more = ["--scenarios", self.file("s.toml", SCENARIOS), "--bank", "South"]
             done = evidence(*words, *more, program=str(program))
@@ -330,15 +442,21 @@ class Evidence(EvidenceCase):
         ask = [sys.executable, "-B", "-c", "from clearing_tools.evidence import versions; print(versions.commit_of())"]
         # What is written, and whether it is a change: an output of one's own is none, and nor is what a build makes.
         for name, is_change in [
-            ("mine.csv", False), ("bin/mine.csv", False), (f"{sources}/out/x", False), (f"{sources}/lib.rt", True),
-            (f"{sources}/new.rt", True), ("bin/clearing-evidence", True),
+            ("mine.csv", False),
+            ("bin/mine.csv", False),
+            (f"{sources}/out/x", False),
+            (f"{sources}/lib.rt", True),
+            (f"{sources}/new.rt", True),
+            ("bin/clearing-evidence", True),
         ]:
             path = copy / name
             before = path.read_bytes() if path.exists() else None
             path.parent.mkdir(exist_ok=True)
             path.write_bytes((before or b"") + b"# new\n")
             want = commit + (", with changes that are not committed" if is_change else "")
-            self.assertEqual(subprocess.check_output(ask, cwd=copy / "python/src", env=own, encoding="utf-8"), want + "\n", name)
+            self.assertEqual(
+                subprocess.check_output(ask, cwd=copy / "python/src", env=own, encoding="utf-8"), want + "\n", name
+            )
             if before is None:
                 path.unlink()
             else:
@@ -354,22 +472,39 @@ class Evidence(EvidenceCase):
 
     def test_the_guide_makes_each_folder_once(self):
         text = (ROOT / "docs/GUIDE.md").read_text(encoding="utf-8")
-        commands = "".join(re.findall(r"^```\w*\n(.*?)^```$", text, re.MULTILINE | re.DOTALL)).replace("\\\n", " ").split("\n")
-        made = [name for line in commands for name in re.findall(r"(?:clearing-report .*--keep|clearing-evidence make) (\S+)", line)]
+        commands = (
+            "".join(re.findall(r"^```\w*\n(.*?)^```$", text, re.MULTILINE | re.DOTALL)).replace("\\\n", " ").split("\n")
+        )
+        made = [
+            name
+            for line in commands
+            for name in re.findall(r"(?:clearing-report .*--keep|clearing-evidence make) (\S+)", line)
+        ]
         self.assertGreater(len(made), 1)
         self.assertEqual(sorted(made), sorted(set(made)))
 
     def test_an_interrupt_ends_at_once_and_leaves_nothing(self):
         place = self.folder / "place"
         place.mkdir()
-        program = self.file("program", f'#!/bin/sh\ncase $1 in clear) exec sleep 60;; esac\nexec {shlex.quote(PROGRAM)} "$@"\n')
+        program = self.file(
+            "program", f'#!/bin/sh\ncase $1 in clear) exec sleep 60;; esac\nexec {shlex.quote(PROGRAM)} "$@"\n'
+        )
         program.chmod(0o755)
         for number in (signal.SIGINT, signal.SIGTERM):
             running = subprocess.Popen(
-                [SCRIPT, "make", str(place / "evidence"),
-                 "--banks", str(HUB / "banks.csv"), "--debts", str(HUB / "debts.csv")],
+                [
+                    SCRIPT,
+                    "make",
+                    str(place / "evidence"),
+                    "--banks",
+                    str(HUB / "banks.csv"),
+                    "--debts",
+                    str(HUB / "debts.csv"),
+                ],
                 env={**os.environ, "CLEARING": str(program), "PYTHONDONTWRITEBYTECODE": "1"},
-                stdout=subprocess.PIPE, stderr=subprocess.PIPE, start_new_session=True,
+                stdout=subprocess.PIPE,
+                stderr=subprocess.PIPE,
+                start_new_session=True,
             )
             self.addCleanup(running.stdout.close)
             self.addCleanup(running.stderr.close)

@@ -22,7 +22,10 @@ class Source(test_evidence.Evidence):
         self.file("list.csv", LIST)
         self.file("table.csv", "bank,cash\nA,3\nB,5\n")
         self.file("rates.csv", "currency,rate\nEUR,1\nUSD,0.5\n")
-        return "from_list.py list.csv --table table.csv --debtor borrower --creditor lender --duplicates once --rate currency=rates.csv"
+        return (
+            "from_list.py list.csv --table table.csv --debtor borrower --creditor lender --duplicates once --rate"
+            " currency=rates.csv"
+        )
 
     def test_the_sheets_and_the_command_are_kept_and_the_files_made_anew(self):
         done = self.make(self.given())
@@ -34,8 +37,12 @@ class Source(test_evidence.Evidence):
         self.assertEqual((folder / "inputs/debts.csv").read_text(), "debtor,creditor,class,claim\nA,B,1,10\nB,A,1,2\n")
         done = evidence("check", folder)
         self.assertEqual((done.returncode, done.stderr), (0, b""))
-        for line in ("source: inputs/banks.csv same", "source: inputs/debts.csv same", "source: source/summary.csv same",
-                     "checked: the two files are what the command in source/ makes of the sheets"):
+        for line in (
+            "source: inputs/banks.csv same",
+            "source: inputs/debts.csv same",
+            "source: source/summary.csv same",
+            "checked: the two files are what the command in source/ makes of the sheets",
+        ):
             self.assertIn(line, done.stdout.decode().splitlines())
 
     def test_totals_are_kept_and_the_network_made_anew(self):
@@ -44,12 +51,17 @@ class Source(test_evidence.Evidence):
             done = self.make(f"from_totals.py totals.csv --method {method} --seed 7 --steps 200")
             self.assertEqual((done.returncode, done.stderr), (0, b""))
             folder = self.folder / "evidence"
-            self.assertEqual({path.name for path in (folder / "source").iterdir()}, {"1-totals.csv", "command.tsv", "summary.csv"})
+            self.assertEqual(
+                {path.name for path in (folder / "source").iterdir()}, {"1-totals.csv", "command.tsv", "summary.csv"}
+            )
             made = (folder / "inputs/debts.csv").read_text().splitlines()
             self.assertGreaterEqual(len(made), claims)
             done = evidence("check", folder)
             self.assertEqual((done.returncode, done.stderr), (0, b""))
-            self.assertIn("checked: the two files are what the command in source/ makes of the sheets", done.stdout.decode().splitlines())
+            self.assertIn(
+                "checked: the two files are what the command in source/ makes of the sheets",
+                done.stdout.decode().splitlines(),
+            )
             # Another seed makes other claims.
             command = folder / "source/command.tsv"
             command.write_text(command.read_text().replace("word\t7\n", "word\t8\n"))
@@ -64,7 +76,14 @@ class Source(test_evidence.Evidence):
     def case(self, *words):
         """A case of a matrix, with names that need a code."""
         self.file("m.csv", self.CLAIMS)
-        said = ["--unit=0.5", "--decimal=.", "--label-column=full", "--country-column=country", "--currency=EUR", "--title=Two banks"]
+        said = [
+            "--unit=0.5",
+            "--decimal=.",
+            "--label-column=full",
+            "--country-column=country",
+            "--currency=EUR",
+            "--title=Two banks",
+        ]
         self.told("clearing-from-matrix", self.folder / "m.csv", *said, "--case", self.folder / "case", *words)
         return self.folder / "case"
 
@@ -72,7 +91,10 @@ class Source(test_evidence.Evidence):
         done = evidence("make", self.folder / "evidence", "--case", self.case("--keep-sources"))
         self.assertEqual((done.returncode, done.stderr), (0, b""))
         folder = self.folder / "evidence"
-        self.assertEqual({path.name for path in (folder / "inputs").iterdir()}, {"banks.csv", "debts.csv", "labels.csv", "datapackage.json"})
+        self.assertEqual(
+            {path.name for path in (folder / "inputs").iterdir()},
+            {"banks.csv", "debts.csv", "labels.csv", "datapackage.json"},
+        )
         self.assertIn('A Inc.,,"Alpha, Inc.",,DE', (folder / "inputs/labels.csv").read_text())
         done = evidence("check", folder)
         self.assertEqual((done.returncode, done.stderr), (0, b""))
@@ -83,7 +105,10 @@ class Source(test_evidence.Evidence):
         self.sums_anew(folder)
         done = evidence("check", folder)
         self.assertEqual(done.returncode, 4)
-        for line in ("inputs/datapackage.json: labels.csv is not the file that was described", "source: inputs/labels.csv differs"):
+        for line in (
+            "inputs/datapackage.json: labels.csv is not the file that was described",
+            "source: inputs/labels.csv differs",
+        ):
             self.assertIn(f"{line}\n", done.stdout.decode())
 
     def test_a_case_without_its_sheets_or_that_was_changed(self):
@@ -104,7 +129,9 @@ class Source(test_evidence.Evidence):
         self.made("clearing-case", "refresh", place)
         done = evidence("make", self.folder / "other", "--case", place)
         self.assertEqual(done.returncode, 0)
-        self.assertIn("the sheets of the case do not make its banks.csv any more; they are left out", done.stderr.decode())
+        self.assertIn(
+            "the sheets of the case do not make its banks.csv any more; they are left out", done.stderr.decode()
+        )
         self.assertFalse((self.folder / "other/source").exists())
 
     def test_the_sheets_of_a_case_are_read_through_no_link(self):
@@ -150,7 +177,10 @@ class Source(test_evidence.Evidence):
 
     def test_a_command_with_labels_is_kept_as_it_was_run(self):
         self.file("m.csv", self.CLAIMS)
-        done = self.make("bin/clearing-from-matrix m.csv --unit 0.5 --decimal . --label names.csv --label-column full --drop country --banks b.csv --debts=d.csv --title x")
+        done = self.make(
+            "bin/clearing-from-matrix m.csv --unit 0.5 --decimal . --label names.csv --label-column full --drop country"
+            " --banks b.csv --debts=d.csv --title x"
+        )
         self.assertEqual((done.returncode, done.stderr), (0, b""))
         folder = self.folder / "evidence"
         self.assertNotIn("names.csv", (folder / "source/command.tsv").read_text())
@@ -176,7 +206,10 @@ class Source(test_evidence.Evidence):
         self.sums_anew(folder)
         done = evidence("check", folder)
         self.assertEqual(done.returncode, 5)
-        self.assertIn("source: from_list: source/1-list.csv row 2 column amount: 'ten' is not an amount\n", done.stdout.decode().replace("-c:", "from_list:"))
+        self.assertIn(
+            "source: from_list: source/1-list.csv row 2 column amount: 'ten' is not an amount\n",
+            done.stdout.decode().replace("-c:", "from_list:"),
+        )
 
     def test_a_command_that_reads_or_writes_elsewhere_is_not_run(self):
         self.make(self.given())
@@ -184,8 +217,17 @@ class Source(test_evidence.Evidence):
         command = folder / "source/command.tsv"
         whole = command.read_text()
         written = self.folder / "written.csv"
-        for line in (f"word\t--label={written}\n", "word\t--summary\n", "word\t--banks=x.csv\n", "word\t/etc/passwd\n", "word\t--table=/etc/passwd\n", "word\tx=../../y\n",
-                     "file\t\t../inputs/banks.csv\n", "file\t--label=\t1-list.csv\n", "other\n"):
+        for line in (
+            f"word\t--label={written}\n",
+            "word\t--summary\n",
+            "word\t--banks=x.csv\n",
+            "word\t/etc/passwd\n",
+            "word\t--table=/etc/passwd\n",
+            "word\tx=../../y\n",
+            "file\t\t../inputs/banks.csv\n",
+            "file\t--label=\t1-list.csv\n",
+            "other\n",
+        ):
             command.write_text(whole + line)
             self.sums_anew(folder)
             done = evidence("check", folder)
@@ -198,12 +240,25 @@ class Source(test_evidence.Evidence):
 
     def test_what_is_no_command_makes_nothing(self):
         totals = self.file("totals.csv", TOTALS)
-        for command, status, told in [("sh -c x", 2, b"--source begins with one of clearing-from-matrix, clearing-from-list, clearing-from-totals"),
-                                      (f"from_totals.py {totals} --method sample --samples 2", 2, b"--source is of one network, and --samples makes several"), ("from_list.py 'x", 2, b"--source is no command"),
-                                      (self.given().replace("--duplicates once", ""), 4, b"the same in every column as a line before")]:
+        for command, status, told in [
+            (
+                "sh -c x",
+                2,
+                b"--source begins with one of clearing-from-matrix, clearing-from-list, clearing-from-totals",
+            ),
+            (
+                f"from_totals.py {totals} --method sample --samples 2",
+                2,
+                b"--source is of one network, and --samples makes several",
+            ),
+            ("from_list.py 'x", 2, b"--source is no command"),
+            (self.given().replace("--duplicates once", ""), 4, b"the same in every column as a line before"),
+        ]:
             done = self.make(command)
             self.assertEqual((done.returncode, done.stdout), (status, b""))
             self.assertIn(told, done.stderr)
             self.assertFalse((self.folder / "evidence").exists())
-        done = evidence("make", self.folder / "evidence", "--source", "clearing-from-list", "--banks", "b.csv", "--debts", "d.csv")
+        done = evidence(
+            "make", self.folder / "evidence", "--source", "clearing-from-list", "--banks", "b.csv", "--debts", "d.csv"
+        )
         self.assertEqual(done.returncode, 2)

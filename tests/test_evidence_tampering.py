@@ -1,5 +1,5 @@
-"""Ways of tampering with a folder of evidence whose checksums are made anew: each has its status where no program is at hand, or the check
-names what was altered as not checked."""
+"""Ways of tampering with a folder of evidence whose checksums are made anew: each has its status where no program is
+at hand, or the check names what was altered as not checked."""
 import concurrent.futures
 import functools
 import os
@@ -131,41 +131,107 @@ MANY = [put(f"more-{number}", "") for number in range(1100)]
 # What is done; the status; a line of the output or the messages.
 TABLE = [
     # Names that do not belong to it.
-    ("no scenarios, but what they left", both(remove("inputs/scenarios.toml"), without_lines("commands.tsv", "stress|scenario-")), 3,
-     "stress.csv: none of these commands makes it here"),
-    ("the same with the states made up", both(remove("inputs/scenarios.toml"), without_lines("commands.tsv", "stress|scenario-"), SOUND), 3,
-     "scenario-1/defaults.csv: none of these commands makes it here"),
-    ("no scenarios, but their stress", both(remove("inputs/scenarios.toml", "scenario-1"), without_lines("commands.tsv", "stress|scenario-")), 3,
-     "stress.csv: none of these commands makes it here"),
-    ("an invented scenario", both(*(copy(f"scenario-1/{name}.csv", f"scenario-9/{name}.csv") for name in ("banks", "journal", "payments", "defaults"))), 3,
-     "scenario-9/payments.csv: none of these commands makes it here"),
+    (
+        "no scenarios, but what they left",
+        both(remove("inputs/scenarios.toml"), without_lines("commands.tsv", "stress|scenario-")),
+        3,
+        "stress.csv: none of these commands makes it here",
+    ),
+    (
+        "the same with the states made up",
+        both(remove("inputs/scenarios.toml"), without_lines("commands.tsv", "stress|scenario-"), SOUND),
+        3,
+        "scenario-1/defaults.csv: none of these commands makes it here",
+    ),
+    (
+        "no scenarios, but their stress",
+        both(remove("inputs/scenarios.toml", "scenario-1"), without_lines("commands.tsv", "stress|scenario-")),
+        3,
+        "stress.csv: none of these commands makes it here",
+    ),
+    (
+        "an invented scenario",
+        both(
+            *(
+                copy(f"scenario-1/{name}.csv", f"scenario-9/{name}.csv")
+                for name in ("banks", "journal", "payments", "defaults")
+            )
+        ),
+        3,
+        "scenario-9/payments.csv: none of these commands makes it here",
+    ),
     ("a scenario 01", copy("scenario-1/payments.csv", "scenario-01/payments.csv"), 3, "scenario-01/payments.csv: none"),
-    ("a unit less without a rescue", both(remove("rescue"), without_lines("commands.tsv", "rescue|unit-less")), 3, "unit-less/banks.csv: none"),
+    (
+        "a unit less without a rescue",
+        both(remove("rescue"), without_lines("commands.tsv", "rescue|unit-less")),
+        3,
+        "unit-less/banks.csv: none",
+    ),
     ("a rescue above the folder's own", put("rescue.csv", "rescue,South,0\nshort,0\n"), 3, "rescue.csv: none"),
-    ("banks beside the network as it is", put("as-is/banks.csv", "name,cash,rule\nHub,999,order\n"), 3, "as-is/banks.csv: none"),
-    ("a rescue within the network as it is", put("as-is/rescue.csv", "rescue,South,0\nshort,0\n"), 3, "as-is/rescue.csv: none"),
+    (
+        "banks beside the network as it is",
+        put("as-is/banks.csv", "name,cash,rule\nHub,999,order\n"),
+        3,
+        "as-is/banks.csv: none",
+    ),
+    (
+        "a rescue within the network as it is",
+        put("as-is/rescue.csv", "rescue,South,0\nshort,0\n"),
+        3,
+        "as-is/rescue.csv: none",
+    ),
     ("bounds that nobody asked for", put("as-is/bounds.csv", "x\n"), 3, "as-is/bounds.csv: none"),
     ("a file among the inputs", put("inputs/more.csv", "x\n"), 3, "inputs/more.csv: none"),
     ("a file that is hidden", put(".verdict", "checked: all is well\n"), 3, ".verdict: none"),
     ("a text beside README.txt", put("README", "all is well\n"), 3, "README: none"),
     ("an empty folder", lambda folder: (folder / "scenario-2").mkdir(), 3, "scenario-2/: none"),
     ("a folder in a folder", lambda folder: (folder / "as-is/more").mkdir(), 3, "as-is/more/: none"),
-    ("a file deep down", both(lambda folder: (folder / "as-is/more").mkdir(), put("as-is/more/x.csv", "x")), 3, "as-is/more/: none"),
+    (
+        "a file deep down",
+        both(lambda folder: (folder / "as-is/more").mkdir(), put("as-is/more/x.csv", "x")),
+        3,
+        "as-is/more/: none",
+    ),
     ("a name that ends a line", put("x\nchecked: all files are fine", "x"), 3, None),
     ("a name that clears the terminal", put("x\x1b[2J\x9b2Jx", "x"), 3, "x<U+001B>[2J<U+009B>2Jx: none"),
     ("a name that turns the line round", put("x\u202efine", "x"), 3, "x<U+202E>fine: none"),
-    ("a name in other letters", lambda folder: (folder / "stress.csv").rename(folder / "Stress.csv"), 3, "stress.csv is not there"),
+    (
+        "a name in other letters",
+        lambda folder: (folder / "stress.csv").rename(folder / "Stress.csv"),
+        3,
+        "stress.csv is not there",
+    ),
     ("more names than any folder has", both(*MANY), 3, "more than 1000 names"),
     # What is there, but no file.
-    ("a link to the inputs", link("as-is/payments.csv", "../scenario-1/payments.csv"), 3, "as-is/payments.csv is not there"),
+    (
+        "a link to the inputs",
+        link("as-is/payments.csv", "../scenario-1/payments.csv"),
+        3,
+        "as-is/payments.csv is not there",
+    ),
     ("a link out of the folder", link("inputs/banks.csv", "/etc/hostname"), 3, "inputs/banks.csv is not there"),
     ("a link of a folder", a_link_of_a_folder, 3, "is not there"),
     ("a pipe", a_pipe, 3, "stress.csv is not there"),
     ("a socket", a_socket, 3, "stress.csv is not there"),
     ("a device", link("versions.txt", "/dev/zero"), 3, "versions.txt is not there"),
-    ("a folder in the place of a file", both(remove("versions.txt"), lambda folder: (folder / "versions.txt").mkdir()), 3, "versions.txt is not there"),
-    ("twelve gigabytes of nothing", sparse("versions.txt", 12 << 30), 3, "versions.txt: it is longer than 8,388,608 bytes"),
-    ("twelve gigabytes of banks", sparse("inputs/banks.csv", 12 << 30), 3, "inputs/banks.csv: it is longer than 167,772,160 bytes"),
+    (
+        "a folder in the place of a file",
+        both(remove("versions.txt"), lambda folder: (folder / "versions.txt").mkdir()),
+        3,
+        "versions.txt is not there",
+    ),
+    (
+        "twelve gigabytes of nothing",
+        sparse("versions.txt", 12 << 30),
+        3,
+        "versions.txt: it is longer than 8,388,608 bytes",
+    ),
+    (
+        "twelve gigabytes of banks",
+        sparse("inputs/banks.csv", 12 << 30),
+        3,
+        "inputs/banks.csv: it is longer than 167,772,160 bytes",
+    ),
     # What is missing.
     ("no payments of a scenario", remove("scenario-1/payments.csv"), 3, "scenario-1/payments.csv is not there"),
     ("no journal of a unit less", remove("unit-less/journal.csv"), 3, "unit-less/journal.csv is not there"),
@@ -174,21 +240,57 @@ TABLE = [
     ("no README.txt", remove("README.txt"), 3, "README.txt is not there"),
     ("no versions", remove("versions.txt"), 3, "versions.txt is not there"),
     # Texts.
-    ("another README.txt", put("README.txt", "Everything here was checked and found true.\n"), 3, "README.txt: not the text of these tools"),
+    (
+        "another README.txt",
+        put("README.txt", "Everything here was checked and found true.\n"),
+        3,
+        "README.txt: not the text of these tools",
+    ),
     ("a blank in README.txt", alter("README.txt", "\n\n", "\n \n"), 3, "README.txt: not the text of these tools"),
     ("a command fewer", without_lines("commands.tsv", "stress"), 3, "commands.tsv: not the commands"),
     ("another status", alter("commands.tsv", "\t0\t", "\t7\t"), 3, "commands.tsv: not the commands"),
-    ("a command of other words", alter("commands.tsv", "--workers\t1", "--workers\t2"), 3, "commands.tsv: not the commands"),
-    ("versions with a line more", alter("versions.txt", "\npython", "\nchecked: all\npython"), 3, "versions.txt: not of its form"),
+    (
+        "a command of other words",
+        alter("commands.tsv", "--workers\t1", "--workers\t2"),
+        3,
+        "commands.tsv: not the commands",
+    ),
+    (
+        "versions with a line more",
+        alter("versions.txt", "\npython", "\nchecked: all\npython"),
+        3,
+        "versions.txt: not of its form",
+    ),
     ("versions with an escape", alter("versions.txt", "python ", "python \x1b[2J"), 3, "versions.txt: not of its form"),
-    ("another program in versions", lambda folder: put("versions.txt", re.sub(b"program .*", b"program " + b"0" * 64, (folder / "versions.txt").read_bytes()))(folder),
-     0, "not checked: that versions.txt is true"),
+    (
+        "another program in versions",
+        lambda folder: put(
+            "versions.txt", re.sub(b"program .*", b"program " + b"0" * 64, (folder / "versions.txt").read_bytes())
+        )(folder),
+        0,
+        "not checked: that versions.txt is true",
+    ),
     # SHA256SUMS.
-    ("checksums in another order", a_sum(lambda text: b"".join(sorted(text.splitlines(True)))), 3, "SHA256SUMS: not as these commands write it"),
+    (
+        "checksums in another order",
+        a_sum(lambda text: b"".join(sorted(text.splitlines(True)))),
+        3,
+        "SHA256SUMS: not as these commands write it",
+    ),
     ("a checksum in capitals", a_sum(lambda text: text[:64].upper() + text[64:]), 4, "README.txt differs"),
     ("an empty line", a_sum(lambda text: text + b"\n"), 3, "SHA256SUMS is not a list of checksums"),
-    ("checksums of files elsewhere", a_sum(lambda text: text + b"0" * 64 + b"  ../../etc/passwd\n"), 3, "../../etc/passwd is not there"),
-    ("a file listed twice", a_sum(lambda text: text + text.splitlines(True)[0]), 3, "SHA256SUMS is not a list of checksums"),
+    (
+        "checksums of files elsewhere",
+        a_sum(lambda text: text + b"0" * 64 + b"  ../../etc/passwd\n"),
+        3,
+        "../../etc/passwd is not there",
+    ),
+    (
+        "a file listed twice",
+        a_sum(lambda text: text + text.splitlines(True)[0]),
+        3,
+        "SHA256SUMS is not a list of checksums",
+    ),
     ("a file not listed", a_sum(lambda text: b"".join(text.splitlines(True)[1:])), 4, "is not listed"),
     ("no checksums at all", a_sum(lambda text: b""), 3, "SHA256SUMS is not a list of checksums"),
     # Banks.
@@ -199,16 +301,44 @@ TABLE = [
     ("a rescue with more", alter("rescue/banks.csv", "South,", "South,1"), 5, "rescue: banks differ"),
     ("another sum", alter("rescue/rescue.csv", "rescue,South,2", "rescue,South,3"), 5, "rescue: banks differ"),
     # Journals.
-    ("a raise too high", lambda folder: put("as-is/journal.csv", re.sub(rb"(\n[0-9]+,[^\n]*,)([0-9]+)\n", rb"\g<1>9\2\n", (folder / "as-is/journal.csv").read_bytes(), count=1))(folder),
-     6, "is not lawful"),
-    ("a raise less", lambda folder: put("as-is/journal.csv", re.sub(rb"\n[^\n]*(\nrounds)", rb"\1", (folder / "as-is/journal.csv").read_bytes()))(folder), 6, "can pay more"),
+    (
+        "a raise too high",
+        lambda folder: put(
+            "as-is/journal.csv",
+            re.sub(
+                rb"(\n[0-9]+,[^\n]*,)([0-9]+)\n", rb"\g<1>9\2\n", (folder / "as-is/journal.csv").read_bytes(), count=1
+            ),
+        )(folder),
+        6,
+        "is not lawful",
+    ),
+    (
+        "a raise less",
+        lambda folder: put(
+            "as-is/journal.csv", re.sub(rb"\n[^\n]*(\nrounds)", rb"\1", (folder / "as-is/journal.csv").read_bytes())
+        )(folder),
+        6,
+        "can pay more",
+    ),
     ("no raises", put("as-is/journal.csv", "stamp,debtor,creditor,class,to\nrounds,1\n"), 6, "can pay more"),
     ("an empty journal", put("as-is/journal.csv", ""), 6, "journal row 0: header (1)"),
-    ("another number of rounds", alter("as-is/journal.csv", "rounds,", "rounds,9"), 0, "not checked: the numbers of rounds"),
+    (
+        "another number of rounds",
+        alter("as-is/journal.csv", "rounds,", "rounds,9"),
+        0,
+        "not checked: the numbers of rounds",
+    ),
     ("no number of rounds", without_lines("as-is/journal.csv", "rounds"), 0, "not checked: the numbers of rounds"),
     # Tables.
     ("payments of another network", swap, 7, "payments differ"),
-    ("a unit more paid", lambda folder: put("as-is/payments.csv", re.sub(rb"([0-9]+)\n$", rb"9\1\n", (folder / "as-is/payments.csv").read_bytes()))(folder), 7, "payments differ"),
+    (
+        "a unit more paid",
+        lambda folder: put(
+            "as-is/payments.csv", re.sub(rb"([0-9]+)\n$", rb"9\1\n", (folder / "as-is/payments.csv").read_bytes())
+        )(folder),
+        7,
+        "payments differ",
+    ),
     ("payments in another form", alter("as-is/payments.csv", "\n", "\r\n", 99), 7, "payments differ"),
     ("a state made up", alter("scenario-1/defaults.csv", "contagion", "sound"), 7, "defaults differ"),
     ("sums made up", alter("as-is/defaults.csv", "total,", "total,9"), 7, "defaults differ"),
@@ -216,11 +346,32 @@ TABLE = [
     ("stress of another name", alter("stress.csv", "scenario,half", "scenario,none"), 7, "stress.csv: differs"),
     ("states made up in both", both(SOUND, alter("stress.csv", "contagion", "sound", 9)), 7, "scenario 1: lawful"),
     ("another want of the rescue", alter("rescue/rescue.csv", "short,1", "short,2"), 7, "not what the tables say"),
-    ("the sum with a sign", alter("rescue/rescue.csv", "South,", "South,+"), 3, "rescue.csv is not what `clearing rescue` prints"),
-    ("the sum with a blank", alter("rescue/rescue.csv", "South,", "South, "), 3, "rescue.csv is not what `clearing rescue` prints"),
-    ("a sum of 5,000 digits", alter("rescue/rescue.csv", "South,", "South," + "9" * 5000), 3, "rescue.csv is not what `clearing rescue` prints"),
-    ("payments of the rescue made up", lambda folder: put("rescue/rescue.csv", re.sub(rb"([0-9]+)\n$", rb"9\1\n", (folder / "rescue/rescue.csv").read_bytes()))(folder), 7,
-     "not what the tables say"),
+    (
+        "the sum with a sign",
+        alter("rescue/rescue.csv", "South,", "South,+"),
+        3,
+        "rescue.csv is not what `clearing rescue` prints",
+    ),
+    (
+        "the sum with a blank",
+        alter("rescue/rescue.csv", "South,", "South, "),
+        3,
+        "rescue.csv is not what `clearing rescue` prints",
+    ),
+    (
+        "a sum of 5,000 digits",
+        alter("rescue/rescue.csv", "South,", "South," + "9" * 5000),
+        3,
+        "rescue.csv is not what `clearing rescue` prints",
+    ),
+    (
+        "payments of the rescue made up",
+        lambda folder: put(
+            "rescue/rescue.csv", re.sub(rb"([0-9]+)\n$", rb"9\1\n", (folder / "rescue/rescue.csv").read_bytes())
+        )(folder),
+        7,
+        "not what the tables say",
+    ),
 ]
 
 
@@ -241,7 +392,9 @@ class Tampering(EvidenceCase):
         if done.returncode != status or (line or "") not in told or "Traceback" in told or "\x1b" in told:
             return f"{about}: {done.returncode}, not {status} with {line!r}:\n{told}"
         # Nothing that was altered is said to be checked, and what a name says is no line.
-        failed = {3: "the folder has", 4: "the files are", 5: "each banks file", 6: "each journal", 7: "payments"}.get(status)
+        failed = {3: "the folder has", 4: "the files are", 5: "each banks file", 6: "each journal", 7: "payments"}.get(
+            status
+        )
         if re.search(f"(?m)^checked: ({failed}|all)", told):
             return f"{about}: said to be checked:\n{told}"
         return None
@@ -258,7 +411,11 @@ class Tampering(EvidenceCase):
     def test_what_does_not_belong_to_it_is_not_copied(self):
         folder = self.hub(ONE)
         belongs = {str(path.relative_to(folder)) for path in folder.rglob("*") if path.is_file()}
-        others = {f"scenario-{number}/{name}.csv" for number in (9, 999) for name in ("banks", "journal", "payments", "defaults")}
+        others = {
+            f"scenario-{number}/{name}.csv"
+            for number in (9, 999)
+            for name in ("banks", "journal", "payments", "defaults")
+        }
         for name in others:
             put(name, "x" * 1000)(folder)
         read = self.copied(folder).folder
@@ -267,12 +424,16 @@ class Tampering(EvidenceCase):
         # Nothing belongs to inputs that are none but what says so.
         put("inputs/banks.csv", "x")(folder)
         read = self.copied(folder).folder
-        self.assertLess({path.name for path in read.copy.rglob("*") if path.is_file()}, {os.path.basename(name) for name in FIRST})
+        self.assertLess(
+            {path.name for path in read.copy.rglob("*") if path.is_file()}, {os.path.basename(name) for name in FIRST}
+        )
         self.assertLess(set(read.sums), FIRST)
         shutil.rmtree(folder)
         # Nor is a copy made that takes more than half of the room.
         folder = self.hub(ONE)
-        with unittest.mock.patch("shutil.disk_usage", return_value=shutil._ntuple_diskusage(0, 0, 9_000)), self.assertRaises(NoRoomError) as caught:
+        with unittest.mock.patch(
+            "shutil.disk_usage", return_value=shutil._ntuple_diskusage(0, 0, 9_000)
+        ), self.assertRaises(NoRoomError) as caught:
             self.copied(folder)
         self.assertIn(" bytes, and there is room for 4,500", str(caught.exception))
 
@@ -287,11 +448,14 @@ class Tampering(EvidenceCase):
     def test_a_change_while_it_is_checked_is_told(self):
         folder = self.hub(ONE)
         for about, change in [
-            ("versions.txt", f"echo x >>{folder}/versions.txt"), ("the folder", f"echo x >{folder}/more.txt"),
+            ("versions.txt", f"echo x >>{folder}/versions.txt"),
+            ("the folder", f"echo x >{folder}/more.txt"),
             ("the folder", f"rm -f {folder}/more.txt {folder}/README.txt; mkfifo {folder}/README.txt"),
         ]:
             kept = shutil.copytree(folder, self.folder / "kept")
-            program = self.file("program", f'#!/bin/sh\n{{ {change}; }} 2>/dev/null\nexec {shlex.quote(PROGRAM)} "$@"\n')
+            program = self.file(
+                "program", f'#!/bin/sh\n{{ {change}; }} 2>/dev/null\nexec {shlex.quote(PROGRAM)} "$@"\n'
+            )
             program.chmod(0o755)
             done = evidence("check", folder, program=str(program), timeout=300)
             self.assertEqual(done.returncode, 4, done.stdout.decode())
@@ -303,7 +467,12 @@ class Tampering(EvidenceCase):
 
     def test_only_what_was_looked_at_is_said_to_be_checked(self):
         plain = self.folder / "plain"
-        files = ["--banks", self.file("banks.csv", "name,cash,rule\nA,1,order\nB,1,order\n"), "--debts", self.file("debts.csv", "debtor,creditor,class,claim\nA,B,1,2\n")]
+        files = [
+            "--banks",
+            self.file("banks.csv", "name,cash,rule\nA,1,order\nB,1,order\n"),
+            "--debts",
+            self.file("debts.csv", "debtor,creditor,class,claim\nA,B,1,2\n"),
+        ]
         self.assertEqual(evidence("make", plain, *files).returncode, 0)
         told = self.without_program("check", plain).stdout.decode()
         self.assertIn("checked: payments and defaults are those of the journals\n", told)
@@ -314,7 +483,12 @@ class Tampering(EvidenceCase):
 
     def test_what_may_be_altered_is_named_as_not_checked(self):
         """In the output, by the row of the table, and in GUIDE."""
-        guide = (ROOT / "docs/GUIDE.md").read_text(encoding="utf-8").partition("**What no check of files says**")[2].partition("\n\n")[0]
+        guide = (
+            (ROOT / "docs/GUIDE.md")
+            .read_text(encoding="utf-8")
+            .partition("**What no check of files says**")[2]
+            .partition("\n\n")[0]
+        )
         for about, _, status, line in TABLE:
             if status == 0:
                 self.assertTrue(line.startswith("not checked: "), about)

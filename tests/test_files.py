@@ -36,7 +36,9 @@ class Files(Case):
                 files.write_all({self.folder / "other": "x", name: "y"}, [read])
         for one, other in [("x", "x"), ("hard", "read"), ("soft", "hard"), ("new", "./new")]:
             with self.assertRaisesRegex(ToolError, "one file"):
-                files.write_all({os.path.join(self.folder, one): "1", f"{self.folder}/../{self.folder.name}/{other}": "2"})
+                files.write_all(
+                    {os.path.join(self.folder, one): "1", f"{self.folder}/../{self.folder.name}/{other}": "2"}
+                )
         with self.assertRaisesRegex(ToolError, "a folder"):
             files.write_all({read: "x", self.folder: "y"})
         self.assertEqual((read.read_text(), sorted(os.listdir(self.folder))), ("kept", ["hard", "read", "soft"]))
@@ -68,13 +70,22 @@ class Files(Case):
     def test_a_stream_is_written_behind_what_is_there(self):
         out = self.file("out", "first\n")
         code = "from clearing_tools import files; files.write_all({'/dev/stdout': 'second\\n'})"
-        os.system(f"cd {PACKAGES} && {sys.executable} -c \"{code}\" >>{out}")
+        os.system(f'cd {PACKAGES} && {sys.executable} -c "{code}" >>{out}')
         self.assertEqual(out.read_text(), "first\nsecond\n")
 
     def test_what_follows_a_stream_in_a_file_stays_behind_it(self):
         """The names of standard output and error move the place of the shell in its file, as a write to them does."""
-        code = "import sys; from clearing_tools import files; print('said'); files.write_all([(sys.argv[1], 'one\\n'), (sys.argv[1], 'two\\n')])"
-        for name, stream in (("/dev/stdout", 1), ("/dev/fd/1", 1), ("/proc/self/fd/1", 1), ("/dev/stderr", 2), ("/dev/fd/3", 3)):
+        code = (
+            "import sys; from clearing_tools import files; print('said'); files.write_all([(sys.argv[1], 'one\\n'),"
+            " (sys.argv[1], 'two\\n')])"
+        )
+        for name, stream in (
+            ("/dev/stdout", 1),
+            ("/dev/fd/1", 1),
+            ("/proc/self/fd/1", 1),
+            ("/dev/stderr", 2),
+            ("/dev/fd/3", 3),
+        ):
             for how in (">", ">>", "<>"):
                 with self.subTest(name=name, how=how):
                     out, said = self.file("out", "" if how == ">" else "old\n"), self.folder / "said"
@@ -84,7 +95,11 @@ class Files(Case):
                     with open(said, "wb") as rest:
                         done = subprocess.run(run, cwd=PACKAGES, stdout=rest, stderr=subprocess.PIPE, encoding="utf-8")
                     self.assertEqual((done.returncode, done.stderr), (0, ""))
-                    wanted = ("old\n" if how == ">>" else "") + ("first\n" if first else "") + ("said\n" if stream == 1 else "")
+                    wanted = (
+                        ("old\n" if how == ">>" else "")
+                        + ("first\n" if first else "")
+                        + ("said\n" if stream == 1 else "")
+                    )
                     self.assertEqual(out.read_text(), wanted + "one\ntwo\nlast\n")
                     self.assertEqual(said.read_text(), "" if stream == 1 else "said\n")
 
@@ -94,9 +109,25 @@ class Files(Case):
         table = self.file("table.csv", "name,cash,rule\nA,1,order\nB,2,equal\n")
         generated = ["--seed", 1, "--size", 4, "--tries", 9, "--debts", self.folder / "d.csv"]
         for name, words, option in [
-            ("clearing-from-list", [listed, "--table", table, "--unit", "1", "--summary", self.folder / "told.csv", "--debts", self.folder / "d.csv"], "--banks"),
-            ("clearing-to-matrix", network, "--out"), ("clearing-gen-files", generated, "--banks"),
-            ("clearing-breaking", network, "--output"), ("clearing-impact", network, "--matrix"),
+            (
+                "clearing-from-list",
+                [
+                    listed,
+                    "--table",
+                    table,
+                    "--unit",
+                    "1",
+                    "--summary",
+                    self.folder / "told.csv",
+                    "--debts",
+                    self.folder / "d.csv",
+                ],
+                "--banks",
+            ),
+            ("clearing-to-matrix", network, "--out"),
+            ("clearing-gen-files", generated, "--banks"),
+            ("clearing-breaking", network, "--output"),
+            ("clearing-impact", network, "--matrix"),
         ]:
             with self.subTest(tool=name):
                 made = self.file("made")
@@ -104,7 +135,9 @@ class Files(Case):
                 both = self.folder / "both"
                 script = 'out=$1; shift; { echo first; "$@" || exit; echo last; } >"$out"'
                 run = ["sh", "-c", script, "sh", both, *run_of(name), *words, option, "/dev/stdout"]
-                done = subprocess.run(list(map(str, run)), stdin=subprocess.DEVNULL, stderr=subprocess.PIPE, encoding="utf-8")
+                done = subprocess.run(
+                    list(map(str, run)), stdin=subprocess.DEVNULL, stderr=subprocess.PIPE, encoding="utf-8"
+                )
                 self.assertEqual((done.returncode, both.read_text()[:6]), (0, "first\n"), done.stderr)
                 self.assertTrue(both.read_text().startswith(f"first\n{made.read_text()}"), both.read_text())
                 self.assertTrue(both.read_text().endswith("\nlast\n"))

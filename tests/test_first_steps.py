@@ -1,5 +1,5 @@
-"""Who has no program yet is told so at once, with both ways on, and nothing is built that nobody asked for: in a small repository with the
-packages, whose toolchain notes its calls."""
+"""Who has no program yet is told so at once, with both ways on, and nothing is built that nobody asked for: in a
+small repository with the packages, whose toolchain notes its calls."""
 import os
 import pty
 import shutil
@@ -12,7 +12,10 @@ import test_launcher
 from common import CHAIN, PACKAGES, PROGRAM, ROOT, run_of
 
 FILES = ["--banks", CHAIN / "banks.csv", "--debts", CHAIN / "debts.csv"]
-WAYS = ("to have the program install the wheel of a release: pip install FILE.whl", "or build it in the repository: ./clearing, or this command with --build")
+WAYS = (
+    "to have the program install the wheel of a release: pip install FILE.whl",
+    "or build it in the repository: ./clearing, or this command with --build",
+)
 # It links the tested program.
 LINKS = f"exec '{os.path.abspath(PROGRAM)}' \"$@\""
 
@@ -23,20 +26,38 @@ class FirstSteps(test_launcher.Launcher):
 
     def setUp(self):
         super().setUp()
-        self.rt.write_text(self.rt.read_text().replace("echo 'echo \"$*\" here'", "echo \"$LINKS\""))
+        self.rt.write_text(self.rt.read_text().replace("echo 'echo \"$*\" here'", 'echo "$LINKS"'))
         shutil.copytree(PACKAGES, self.root / "python/src", ignore=shutil.ignore_patterns("__pycache__"))
         shutil.copytree(CHAIN, self.root / "examples/chain")
         shutil.copytree(ROOT / "bin", self.root / "bin")
-        self.environment = {**{key: value for key, value in os.environ.items() if key not in ("CLEARING", "PYTHONPATH")}, "CALLS": str(self.calls),
-                            "TIMES": str(self.times), "PATH": f"{self.folder}/bin:/usr/bin:/bin", "LINKS": LINKS, "PYTHONDONTWRITEBYTECODE": "1"}
+        self.environment = {
+            **{key: value for key, value in os.environ.items() if key not in ("CLEARING", "PYTHONPATH")},
+            "CALLS": str(self.calls),
+            "TIMES": str(self.times),
+            "PATH": f"{self.folder}/bin:/usr/bin:/bin",
+            "LINKS": LINKS,
+            "PYTHONDONTWRITEBYTECODE": "1",
+        }
 
     def ask(self, name, *words, **more):
         run = [*run_of(name)[:-1], str(self.root / "bin" / name), *map(str, words)]
-        return subprocess.run(run, env=self.environment, stdin=subprocess.DEVNULL, capture_output=True, encoding="utf-8", timeout=120, **more)
+        return subprocess.run(
+            run,
+            env=self.environment,
+            stdin=subprocess.DEVNULL,
+            capture_output=True,
+            encoding="utf-8",
+            timeout=120,
+            **more,
+        )
 
     def test_a_tool_says_at_once_that_there_is_no_program_and_builds_nothing(self):
-        for name, words in [("clearing-breaking", FILES), ("clearing-report", [*FILES, "--out", self.folder / "r.html"]), ("clearing-rescues", FILES),
-                            ("clearing-evidence", ["make", self.folder / "evidence", *FILES])]:
+        for name, words in [
+            ("clearing-breaking", FILES),
+            ("clearing-report", [*FILES, "--out", self.folder / "r.html"]),
+            ("clearing-rescues", FILES),
+            ("clearing-evidence", ["make", self.folder / "evidence", *FILES]),
+        ]:
             done = self.ask(name, *words)
             self.assertEqual((done.returncode, done.stdout, self.calls.read_text()), (8, "", ""), (name, done.stderr))
             self.assertIn("there is no program yet, since it is not there", done.stderr)
@@ -49,7 +70,9 @@ class FirstSteps(test_launcher.Launcher):
             for named in (None, str(self.root / "clearing")):
                 environment = self.environment if named is None else {**self.environment, "CLEARING": named}
                 given = {"stdin": subprocess.DEVNULL, "capture_output": True, "encoding": "utf-8", "timeout": 120}
-                done = subprocess.run([str(self.root / "bin/clearing-many"), *words], cwd=self.folder, env=environment, **given)
+                done = subprocess.run(
+                    [str(self.root / "bin/clearing-many"), *words], cwd=self.folder, env=environment, **given
+                )
                 told = (done.returncode, done.stdout, self.calls.read_text())
                 self.assertEqual(told, (8, "", ""), (words, done.stderr))
                 why = "there is no program yet, since it is not there"
@@ -75,7 +98,9 @@ class FirstSteps(test_launcher.Launcher):
         self.assertIn("clear_main: run", built)
         # Then it is there, and the word does no harm.
         for words in ([], ["--build"]):
-            self.assertEqual((self.ask("clearing-breaking", *FILES, *words).returncode, self.calls.read_text()), (0, built))
+            self.assertEqual(
+                (self.ask("clearing-breaking", *FILES, *words).returncode, self.calls.read_text()), (0, built)
+            )
         # Sources that changed are told, and not built either.
         (self.root / "crates/low/src/main.rt").write_text("fn other() {}\n")
         done = self.ask("clearing-breaking", *FILES)
@@ -86,7 +111,11 @@ class FirstSteps(test_launcher.Launcher):
         for answer, status in ((b"n\n", 8), (b"\n", 8), (b"y\n", 0)):
             child, terminal = pty.fork()
             if not child:
-                os.execve(sys.executable, [sys.executable, str(self.root / "bin/clearing-breaking"), *map(str, FILES)], self.environment)
+                os.execve(
+                    sys.executable,
+                    [sys.executable, str(self.root / "bin/clearing-breaking"), *map(str, FILES)],
+                    self.environment,
+                )
             seen = b""
             while b"[y/N]" not in seen:
                 seen += os.read(terminal, 1000)
@@ -106,7 +135,13 @@ class FirstSteps(test_launcher.Launcher):
             shutil.copy(ROOT / script, self.root)
             for word in ("--help", "-h"):
                 began = time.monotonic()
-                done = subprocess.run([str(self.root / script), word], env=self.environment, stdin=subprocess.DEVNULL, capture_output=True, encoding="utf-8")
+                done = subprocess.run(
+                    [str(self.root / script), word],
+                    env=self.environment,
+                    stdin=subprocess.DEVNULL,
+                    capture_output=True,
+                    encoding="utf-8",
+                )
                 self.assertEqual((done.returncode, done.stderr, self.calls.read_text()), (0, "", ""), script)
                 self.assertIn("Ends with the program's status, or with 8", done.stdout)
                 self.assertLess(time.monotonic() - began, 10)

@@ -1,5 +1,5 @@
-"""The gate and the packages that its tests want: with an apt-get that works, fails, hangs or lacks one, and a toolchain that only
-tells its calls."""
+"""The gate and the packages that its tests want: with an apt-get that works, fails, hangs or lacks one, and a
+toolchain that only tells its calls."""
 import functools
 import importlib.util
 import os
@@ -59,9 +59,15 @@ class Machine(Case):
         super().setUp()
         self.calls, self.installed = self.file("calls", ""), self.file("installed", "sea\n")
         (self.folder / "commands").mkdir()
-        dpkg = "#!/bin/sh\necho \"dpkg $*\" >>\"$CALLS\"\n"
-        for name, text in (("apt-get", APT), ("dpkg-query", QUERY), ("dpkg", dpkg), ("rt", RT), ("sleep", "#!/bin/sh\n"),
-                           ("id", "#!/bin/sh\necho ${WHO:-0}\n")):
+        dpkg = '#!/bin/sh\necho "dpkg $*" >>"$CALLS"\n'
+        for name, text in (
+            ("apt-get", APT),
+            ("dpkg-query", QUERY),
+            ("dpkg", dpkg),
+            ("rt", RT),
+            ("sleep", "#!/bin/sh\n"),
+            ("id", "#!/bin/sh\necho ${WHO:-0}\n"),
+        ):
             self.file(f"commands/{name}", text).chmod(0o755)
         self.root = self.folder / "repository"
         (self.root / "tests").mkdir(parents=True)
@@ -72,11 +78,26 @@ class Machine(Case):
     def ran(self, *words, **more):
         """The status and the lines of a command of the repository, what was called, and the seconds it took."""
         self.calls.write_text("")
-        environment = {"PATH": f"{self.folder}/commands:{os.environ['PATH']}", "CALLS": str(self.calls), "INSTALLED": str(self.installed),
-                       "APT": "works", "RT": "0", "STEPS": "", "PYTHONDONTWRITEBYTECODE": "1", **more}
+        environment = {
+            "PATH": f"{self.folder}/commands:{os.environ['PATH']}",
+            "CALLS": str(self.calls),
+            "INSTALLED": str(self.installed),
+            "APT": "works",
+            "RT": "0",
+            "STEPS": "",
+            "PYTHONDONTWRITEBYTECODE": "1",
+            **more,
+        }
         begun = time.monotonic()
-        done = subprocess.run([str(self.root / words[0]), *words[1:]], env=environment, stdin=subprocess.DEVNULL, stdout=subprocess.PIPE,
-                              stderr=subprocess.STDOUT, encoding="utf-8", cwd=self.folder)
+        done = subprocess.run(
+            [str(self.root / words[0]), *words[1:]],
+            env=environment,
+            stdin=subprocess.DEVNULL,
+            stdout=subprocess.PIPE,
+            stderr=subprocess.STDOUT,
+            encoding="utf-8",
+            cwd=self.folder,
+        )
         self.took = time.monotonic() - begun
         self.called = self.calls.read_text().splitlines()
         return done.returncode, done.stdout.splitlines()
@@ -146,8 +167,13 @@ class Gate(Machine):
             (self.root / "crates" / name / "must-fail/one.edit").write_text("")
         beside = self.root / HERE.relative_to(ROOT)
         beside.mkdir(parents=True, exist_ok=True)
-        for source, target in ((ROOT / ".ci/run", ".ci"), (ROOT / "tools/dev/test.sh", "tools/dev"), (ROOT / "tools/dev/gate.py", "tools/dev"),
-                               (ROOT / "tools/dev/crates.py", "tools/dev"), (HERE / "run.py", beside)):
+        for source, target in (
+            (ROOT / ".ci/run", ".ci"),
+            (ROOT / "tools/dev/test.sh", "tools/dev"),
+            (ROOT / "tools/dev/gate.py", "tools/dev"),
+            (ROOT / "tools/dev/crates.py", "tools/dev"),
+            (HERE / "run.py", beside),
+        ):
             shutil.copy(source, self.root / target)
         (beside / "test_some.py").write_text(TESTS)
         (self.root / "tests/skips.txt").write_text("test_some.Some.test_sun  it rains\n")
@@ -159,7 +185,9 @@ class Gate(Machine):
         (self.root / "tests/skips.txt").write_text("")
         status, lines = self.ran(".ci/run", CI="1")
         self.assertEqual(status, 1)
-        self.assertEqual(lines[-2:], ["skipped, which no list allows: test_some.Some.test_sun: it rains", "2 passed, 1 failed"])
+        self.assertEqual(
+            lines[-2:], ["skipped, which no list allows: test_some.Some.test_sun: it rains", "2 passed, 1 failed"]
+        )
 
     def test_without_the_packages_it_goes_on_and_says_so(self):
         for apt in ("fails", "hangs"):
@@ -179,12 +207,17 @@ class Gate(Machine):
         self.assertEqual((status, lines, self.called), (7, ["5 passed, 0 failed"], ["rt ci"]))
 
     def test_the_first_of_its_work_is_a_plain_line(self):
-        lines = [line for line in (ROOT / ".ci/run").read_text(encoding="utf-8").splitlines() if not line.startswith("#")]
+        lines = [
+            line for line in (ROOT / ".ci/run").read_text(encoding="utf-8").splitlines() if not line.startswith("#")
+        ]
         self.assertEqual(lines[0], 'cd "$(dirname "$0")/.." || exit 1')
         self.assertEqual(lines[2], "rt ci")
 
     def test_it_says_what_it_is_at(self):
-        steps = r"rt: low proved\nrt: low: its tests are proved\nrt: low: trying its must-fail edits (1)\nlogic=proved\nrt: high proved\n"
+        steps = (
+            r"rt: low proved\nrt: low: its tests are proved\nrt: low: trying its must-fail edits (1)\nlogic=proved\nrt:"
+            r" high proved\n"
+        )
         status, lines = self.ran(".ci/run", STEPS=steps)
         self.assertEqual((status, self.called), (0, ["rt ci"]))
         told = [line for line in lines if line.startswith("gate: ")]
@@ -195,7 +228,9 @@ class Gate(Machine):
         self.assertIn("logic=proved", lines)
 
     def test_what_is_printed_comes_through_in_every_locale(self):
-        status, lines = self.ran(".ci/run", STEPS=r"one side has `\316\273 x. x \342\211\241 x`\n", PYTHONIOENCODING="ascii")
+        status, lines = self.ran(
+            ".ci/run", STEPS=r"one side has `\316\273 x. x \342\211\241 x`\n", PYTHONIOENCODING="ascii"
+        )
         self.assertEqual(status, 0, lines)
         self.assertIn("one side has `\u03bb x. x \u2261 x`", lines)
 
@@ -221,17 +256,26 @@ class Gate(Machine):
         whole, low = sum(work.takes.values()), gate.PROOF + 1000 * gate.BYTE
         left = (whole - low) / ((low + gate.SECONDS) / (600 + gate.SECONDS)) / 60
         self.assertEqual(work.told(), f"1 of 2 crates are proved; 10 minutes so far, about {left:.0f} more")
-        for line in ("rt: high proved", "rt: low: its tests are proved", "rt: high: its tests are proved", "rt: low: trying its must-fail edits (1)"):
+        for line in (
+            "rt: high proved",
+            "rt: low: its tests are proved",
+            "rt: high: its tests are proved",
+            "rt: low: trying its must-fail edits (1)",
+        ):
             self.assertTrue(work.read(line), line)
         edits = 2 * gate.EDIT + (2 * gate.PROOF + 4000 * gate.BYTE) * gate.AGAIN
         left = edits / ((whole - edits + gate.SECONDS) / (600 + gate.SECONDS)) / 60
-        self.assertEqual(work.told(), f"2 of 2 crates are proved; edits of low; 10 minutes so far, about {left:.0f} more")
+        self.assertEqual(
+            work.told(), f"2 of 2 crates are proved; edits of low; 10 minutes so far, about {left:.0f} more"
+        )
         self.assertFalse(work.read("rt: high NOT PROVED"))
 
     def test_what_is_kept_takes_no_time(self):
         work = self.gate().Work()
         all_of_it = sum(work.takes.values())
-        self.assertTrue(work.read("rt: low is kept: an earlier run on this machine proved the same files over the same libraries"))
+        self.assertTrue(
+            work.read("rt: low is kept: an earlier run on this machine proved the same files over the same libraries")
+        )
         self.assertLess(sum(work.takes.values()), all_of_it)
         self.assertEqual(sum(work.takes["low", phase] for phase in ("proof", "tests", "edits")), 0)
 
@@ -245,18 +289,22 @@ class Gate(Machine):
         self.assertEqual(self.gate().lines_of("low"), 6)
 
     def test_the_estimate_is_no_less_than_the_longest_way(self):
-        """A chain of crates, of which each waits for the one before, beside many jobs: told within a third, from the second minute on."""
+        """A chain of crates, of which each waits for the one before, beside many jobs: told within a third, from the
+        second minute on."""
         gate = self.gate()
         names = [f"c{number}" for number in range(12)]
-        (self.root / "crates.txt").write_text("".join(f"{name}: {' '.join(names[max(0, place - 1):place])}\n" for place, name in enumerate(names)))
+        (self.root / "crates.txt").write_text(
+            "".join(f"{name}: {' '.join(names[max(0, place - 1):place])}\n" for place, name in enumerate(names))
+        )
         for name in names:
             (self.root / "crates" / name / "src").mkdir(parents=True)
             (self.root / "crates" / name / "src/lib.rt").write_text(" " * int((60 - gate.PROOF) / gate.BYTE))
         # A machine of just the speed that is taken of one, and one of half that speed: a minute a crate, or two.
         for minutes in (1, 2):
             now = time.monotonic()
-            with unittest.mock.patch.object(gate.time, "monotonic", side_effect=lambda: now), \
-                    unittest.mock.patch.object(gate.os, "cpu_count", return_value=4):
+            with unittest.mock.patch.object(
+                gate.time, "monotonic", side_effect=lambda: now
+            ), unittest.mock.patch.object(gate.os, "cpu_count", return_value=4):
                 work = gate.Work()
                 for done, name in enumerate(names[:-1], 1):
                     now += minutes * 60
@@ -274,26 +322,38 @@ class Gate(Machine):
             (self.root / f"crates/low/must-fail/more{number}.edit").write_text("")
         status, lines = self.ran(".ci/run")
         self.assertEqual((status, self.called), (1, []))
-        self.assertEqual(lines, ["gate: low has 6 edits in must-fail/, of 5: the others belong in edits/, which tools/dev/edits.py tries"])
+        self.assertEqual(
+            lines,
+            ["gate: low has 6 edits in must-fail/, of 5: the others belong in edits/, which tools/dev/edits.py tries"],
+        )
 
     def test_no_crate_of_the_repository_has_more_than_five(self):
         for folder in sorted((ROOT / "crates").glob("*/must-fail")):
             self.assertLessEqual(len(list(folder.glob("*.edit"))), 5, folder)
 
     def test_the_estimate_is_within_a_third_from_the_second_minute_on(self):
-        """A run of the gate as it was once: what each crate took, and the sizes by which it is estimated, in turn as `rt ci` takes them."""
-        rows = [line.split("\t") for line in (HERE / "gate.tsv").read_text(encoding="utf-8").splitlines() if not line.startswith("#")]
+        """A run of the gate as it was once: what each crate took, and the sizes by which it is estimated, in turn as
+        `rt ci` takes them."""
+        rows = [
+            line.split("\t")
+            for line in (HERE / "gate.tsv").read_text(encoding="utf-8").splitlines()
+            if not line.startswith("#")
+        ]
         crates = {row[0]: (row[1].split(), *map(int, row[2:])) for row in rows}
         gate = self.gate()
         now = 0.0
         for jobs, slow in ((2, 1), (4, 1), (2, 2), (4, 2)):
             told = [(slow * at, line) for at, line in self.run_of(crates, jobs)]
             with unittest.mock.patch.multiple(
-                    gate, crates_below=lambda: {name: row[0] for name, row in crates.items()}, bytes_of=lambda name: crates[name][1:3],
-                    lines_of=lambda name: crates[name][3], edits_of=lambda name: [None] * crates[name][4],
-                    has_tests=lambda name: crates[name][6] > 0), \
-                    unittest.mock.patch.object(gate.time, "monotonic", side_effect=lambda: now), \
-                    unittest.mock.patch.object(gate.os, "cpu_count", return_value=jobs):
+                gate,
+                crates_below=lambda: {name: row[0] for name, row in crates.items()},
+                bytes_of=lambda name: crates[name][1:3],
+                lines_of=lambda name: crates[name][3],
+                edits_of=lambda name: [None] * crates[name][4],
+                has_tests=lambda name: crates[name][6] > 0,
+            ), unittest.mock.patch.object(gate.time, "monotonic", side_effect=lambda: now), unittest.mock.patch.object(
+                gate.os, "cpu_count", return_value=jobs
+            ):
                 now = 0.0
                 work = gate.Work()
                 for now, line in told[:-1]:
@@ -304,18 +364,29 @@ class Gate(Machine):
 
     @staticmethod
     def run_of(crates, jobs):
-        """When each line is told of a run of `rt ci` by so many jobs: of the steps that wait for nothing it begins first with the one that
-        has most lines of code behind it."""
+        """When each line is told of a run of `rt ci` by so many jobs: of the steps that wait for nothing it begins
+        first with the one that has most lines of code behind it."""
         takes = {}
         for name, (_, _, _, _, edits, proof, tests, tried) in crates.items():
             for phase, seconds in (("proof", proof), ("tests", tests), ("edits", tried)):
                 if seconds:
-                    takes[name, phase] = seconds, f"rt: {name}" + {
-                        "proof": " proved", "tests": ": its tests are proved", "edits": f": trying its must-fail edits ({edits})"}[phase]
+                    takes[name, phase] = (
+                        seconds,
+                        f"rt: {name}"
+                        + {
+                            "proof": " proved",
+                            "tests": ": its tests are proved",
+                            "edits": f": trying its must-fail edits ({edits})",
+                        }[phase],
+                    )
 
         def before(step):
             name, phase = step
-            steps = [(name, "proof"), (name, "tests")] if phase == "edits" else [(below, "proof") for below in crates[name][0]]
+            steps = (
+                [(name, "proof"), (name, "tests")]
+                if phase == "edits"
+                else [(below, "proof") for below in crates[name][0]]
+            )
             return [each for each in steps if each in takes]
 
         @functools.cache
@@ -340,12 +411,20 @@ class Gate(Machine):
         # A toolchain whose checks take a second and more of a processor, one of them for an edit.
         (self.root / "crates/low/src/lib.rt").write_text("#[test]\nfn one() {}\n")
         (self.root / "crates/low/must-fail/one.edit").write_text("file: src/lib.rt\nold: one\nnew: two\n")
-        check = self.file("commands/check", "#!/usr/bin/env python3\nimport sys, time\nwhile time.process_time() < float(sys.argv[1]): pass\ntime.sleep(2.2)\n")
+        check = self.file(
+            "commands/check",
+            (
+                "#!/usr/bin/env python3\nimport sys, time\nwhile time.process_time() < float(sys.argv[1]):"
+                " pass\ntime.sleep(2.2)\n"
+            ),
+        )
         check.chmod(0o755)
         room = self.folder / "rt-edits-1/low"
         (room / "src").mkdir(parents=True)
         (room / "src/lib.rt").write_text("#[test]\nfn two() {}\n")
-        self.file("commands/rt", f"""#!/bin/sh
+        self.file(
+            "commands/rt",
+            f"""#!/bin/sh
 (cd crates/low && {check} 0.3 --crate-name low)
 (cd crates/low && {check} 0.3 --crate-name low --test)
 (cd {room} && {check} 2.4 --crate-name low)
@@ -353,17 +432,24 @@ echo "3 passed, 0 failed"
 /bin/sleep 1.2
 # What comes after is no check of the gate, such as one that a test of the tools makes.
 (cd crates/low && {check} 0.2 --crate-name high)
-""").chmod(0o755)
+""",
+        ).chmod(0o755)
         status, lines = self.ran("tools/dev/gate.py", "--dear-fails", "sh", "-c", f"cd {self.root} && rt")
         self.assertEqual(status, 1, lines)
-        self.assertRegex("\n".join(lines), r"gate: low +0\.0 +0\.0 +0\.[01] +0\.[01]  one 2 s, the first\n"
-                                           r"gate: all +0\.0 +0\.0 +0\.[01] +0\.[01]\n")
+        self.assertRegex(
+            "\n".join(lines),
+            r"gate: low +0\.0 +0\.0 +0\.[01] +0\.[01]  one 2 s, the first\n"
+            r"gate: all +0\.0 +0\.0 +0\.[01] +0\.[01]\n",
+        )
         self.assertNotIn("high", "\n".join(lines))
-        self.assertEqual(lines[-1], "gate: low/one took 2 s of a processor by itself, where a crate with little in it takes 0 s: "
-                                    "plant it anew")
+        self.assertEqual(
+            lines[-1],
+            "gate: low/one took 2 s of a processor by itself, where a crate with little in it takes 0 s: plant it anew",
+        )
 
     def test_the_first_edit_of_a_crate_is_told_apart(self):
-        """The first proves the crate once more: what it took beyond that is its own, and nothing is known of it where no proof was seen."""
+        """The first proves the crate once more: what it took beyond that is its own, and nothing is known of it where
+        no proof was seen."""
         gate = self.gate()
         watch = gate.Watch()
 
@@ -372,8 +458,14 @@ echo "3 passed, 0 failed"
             return [line.partition(" took ")[0] for line in watch.dear()]
 
         low, high = ("low", "proof", "", 10.0), ("high", "proof", "", 100.0)
-        self.assertEqual(took(low, high, ("high", "edits", "b", 140.0), ("high", "edits", "a", 54.0), ("low", "edits", "one", 55.0)), [])
-        self.assertEqual([line.rpartition("  ")[2] for line in watch.table()[1:3]], ["b 140 s, the first; a 54 s", "one 55 s, the first"])
+        self.assertEqual(
+            took(low, high, ("high", "edits", "b", 140.0), ("high", "edits", "a", 54.0), ("low", "edits", "one", 55.0)),
+            [],
+        )
+        self.assertEqual(
+            [line.rpartition("  ")[2] for line in watch.table()[1:3]],
+            ["b 140 s, the first; a 54 s", "one 55 s, the first"],
+        )
         self.assertEqual(took(low, high, ("high", "edits", "b", 160.0), ("high", "edits", "a", 54.0)), ["high/b"])
         self.assertEqual(took(low, high, ("high", "edits", "b", 140.0), ("high", "edits", "a", 56.0)), ["high/a"])
         # A check by several processes is one.
@@ -382,17 +474,26 @@ echo "3 passed, 0 failed"
 
     def test_nothing_goes_on_where_it_is_ended(self):
         # A toolchain that begins work of its own: one that answers no request to end, and one that has left its parent.
-        self.file("commands/rt", """#!/bin/sh
+        self.file(
+            "commands/rt",
+            """#!/bin/sh
 echo "rt $*" >>"$CALLS"
 setsid sh -c 'trap "" TERM INT HUP; while :; do /bin/sleep 0.2; done' marked-work &
 (setsid /bin/sleep 97531 &)
 /bin/sleep 97531
-""").chmod(0o755)
+""",
+        ).chmod(0o755)
         for number in (signal.SIGTERM, signal.SIGINT, signal.SIGHUP):
             self.calls.write_text("")
             environment = {"PATH": f"{self.folder}/commands:{os.environ['PATH']}", "CALLS": str(self.calls)}
-            going = subprocess.Popen([str(self.root / ".ci/run")], env=environment, stdin=subprocess.DEVNULL, stdout=subprocess.DEVNULL,
-                                     stderr=subprocess.DEVNULL, start_new_session=True)
+            going = subprocess.Popen(
+                [str(self.root / ".ci/run")],
+                env=environment,
+                stdin=subprocess.DEVNULL,
+                stdout=subprocess.DEVNULL,
+                stderr=subprocess.DEVNULL,
+                start_new_session=True,
+            )
             self.addCleanup(going.wait)
             deadline = time.monotonic() + 60
             while (not self.calls.read_text() or len(self.going()) < 3) and time.monotonic() < deadline:

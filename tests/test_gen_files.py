@@ -11,7 +11,14 @@ class GenFiles(Case):
 
     def test_files_have_the_seven_sums_of_gen(self):
         banks, debts = self.file("banks.csv"), self.file("debts.csv")
-        for seed, size, tries in [(0, 1, 0), (1, 1, 20), (7, 2, 30), (3, 40, 300), (2**64 - 1, 1000, 5000), (11, 9, 400)]:
+        for seed, size, tries in [
+            (0, 1, 0),
+            (1, 1, 20),
+            (7, 2, 30),
+            (3, 40, 300),
+            (2**64 - 1, 1000, 5000),
+            (11, 9, 400),
+        ]:
             with self.subTest(seed=seed, size=size, tries=tries):
                 words = ["--seed", seed, "--size", size, "--tries", tries]
                 self.assertEqual(self.made("clearing-gen-files", *words, "--banks", banks, "--debts", debts), "")
@@ -29,14 +36,23 @@ class GenFiles(Case):
         # The same values stand in the tests of the crate net_gen.
         for seed, want in [(0, "N0,8,webster\nN1,1547,order\nN2,1212,webster\n"), (1, "N0,737,equal\n")]:
             banks, debts = self.file("banks.csv"), self.file("debts.csv")
-            self.made("clearing-gen-files", "--seed", seed, "--size", 3, "--tries", 0, "--banks", banks, "--debts", debts)
+            self.made(
+                "clearing-gen-files", "--seed", seed, "--size", 3, "--tries", 0, "--banks", banks, "--debts", debts
+            )
             self.assertTrue(banks.read_text().startswith("name,cash,rule\n" + want))
 
     def test_words_out_of_form_are_refused(self):
         files = ["--banks", self.file("banks.csv"), "--debts", self.file("debts.csv")]
         for seed, size, tries in [(2**64, 3, 3), (1, 0, 3), (1, 1001, 3), (1, 3, 20001), ("-1", 3, 3), ("٣", 3, 3)]:
-            self.refused("clearing-gen-files", 2, "is not a number from",
-                         f"--seed={seed}", f"--size={size}", f"--tries={tries}", *files)
+            self.refused(
+                "clearing-gen-files",
+                2,
+                "is not a number from",
+                f"--seed={seed}",
+                f"--size={size}",
+                f"--tries={tries}",
+                *files,
+            )
 
     def test_both_files_are_written_or_none(self):
         words = ["--seed", 1, "--size", 3, "--tries", 9]

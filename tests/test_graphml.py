@@ -17,7 +17,13 @@ class Texts(Case):
         texts = [self.file(task, clearing(task, *TWELVE).stdout) for task in ("clear", "defaults")]
         done = tool("clearing-to-graphml", *texts, "--out", self.folder / "out", python=str(script))
         self.assertEqual((done.returncode, done.stdout), (2, ""))
-        self.assertRegex(done.stderr, r"clearing-to-graphml: /.* has no networkx \(Debian's package python3-networkx is for /usr/bin/python3 .*FILE\.whl\[all\]'\)")
+        self.assertRegex(
+            done.stderr,
+            (
+                r"clearing-to-graphml: /.* has no networkx \(Debian's package python3-networkx is for /usr/bin/python3"
+                r" .*FILE\.whl\[all\]'\)"
+            ),
+        )
 
     def test_texts_of_other_networks_and_forms_are_refused(self):
         payments, defaults = (self.file(task, clearing(task, *TWELVE).stdout) for task in ("clear", "defaults"))
@@ -27,10 +33,16 @@ class Texts(Case):
         paid = self.file("paid", payments.read_text(encoding="utf-8").replace("1,40000,40000", "1,40000,40001"))
         out = ["--out", self.folder / "out"]
         for words, message in [
-            ((payments, other), "the other text has no bank 'Alster'"), ((defaults, payments), "line 1: not the header bank,estate"),
-            ((payments, defaults, "--banks", hub[0]), "is not of the network of the others"), ((raised, defaults), "the debts of Alster come to 150001"),
-            ((paid, defaults), "line 2: more is paid than is claimed"), ((self.folder / "none", defaults), "cannot be read"),
-            ((payments, self.file("cut", defaults.read_text(encoding="utf-8").rsplit("total", 1)[0])), "not a line with total"),
+            ((payments, other), "the other text has no bank 'Alster'"),
+            ((defaults, payments), "line 1: not the header bank,estate"),
+            ((payments, defaults, "--banks", hub[0]), "is not of the network of the others"),
+            ((raised, defaults), "the debts of Alster come to 150001"),
+            ((paid, defaults), "line 2: more is paid than is claimed"),
+            ((self.folder / "none", defaults), "cannot be read"),
+            (
+                (payments, self.file("cut", defaults.read_text(encoding="utf-8").rsplit("total", 1)[0])),
+                "not a line with total",
+            ),
         ]:
             self.refused("clearing-to-graphml", 1, message, *words, *out)
         self.assertFalse((self.folder / "out").exists())
@@ -53,13 +65,26 @@ class Graph(Case):
         data = lambda item: {dict(keys)[part.get("key")]: part.text for part in item}
         self.assertEqual(root.find(f"{SPACE}graph").get("edgedefault"), "directed")
         nodes = {node.get("id"): data(node) for node in root.iter(f"{SPACE}node")}
-        edges = [(edge.get("id"), edge.get("source"), edge.get("target"), data(edge)) for edge in root.iter(f"{SPACE}edge")]
+        edges = [
+            (edge.get("id"), edge.get("source"), edge.get("target"), data(edge)) for edge in root.iter(f"{SPACE}edge")
+        ]
         return nodes, edges
 
     def test_banks_and_debts_stand_with_payments_and_states(self):
         nodes, edges = self.graph(*TWELVE)
-        self.assertEqual(nodes["Birk"], {"label": "Birk", "estate": "2786669", "paid": "2786669", "owed": "2900000", "equity": "0",
-                                         "state": "contagion", "cash": "1500001", "rule": "equal"})
+        self.assertEqual(
+            nodes["Birk"],
+            {
+                "label": "Birk",
+                "estate": "2786669",
+                "paid": "2786669",
+                "owed": "2900000",
+                "equity": "0",
+                "state": "contagion",
+                "cash": "1500001",
+                "rule": "equal",
+            },
+        )
         debts = [line.split(",") for line in clearing("clear", *TWELVE).stdout.decode().splitlines()[1:]]
         self.assertEqual((len(nodes), len(edges), len({edge[0] for edge in edges})), (12, 40, 40))
         by_id = sorted(edges, key=lambda edge: int(edge[0].removeprefix("debt-")))
@@ -70,31 +95,50 @@ class Graph(Case):
             self.assertAlmostEqual(float(data["share"]) * int(debt[3]), int(debt[4]), 3)
 
     def test_claims_outside_and_several_classes_are_there(self):
-        files = ["--banks", self.file("b.csv", "name,cash,rule,outside\nA,9,order,5\nB,0,order,0\nC,1,order,0\n"),
-                 "--debts", self.file("d.csv", "debtor,creditor,class,claim\nA,B,1,3\nA,B,2,3\nB,A,1,0\n")]
+        files = [
+            "--banks",
+            self.file("b.csv", "name,cash,rule,outside\nA,9,order,5\nB,0,order,0\nC,1,order,0\n"),
+            "--debts",
+            self.file("d.csv", "debtor,creditor,class,claim\nA,B,1,3\nA,B,2,3\nB,A,1,0\n"),
+        ]
         nodes, edges = self.graph(*files)
-        self.assertEqual((nodes["A"]["outside"], nodes["A"]["outside_paid"], nodes["A"]["state"]), ("5", "5", "fundamental"))
-        self.assertEqual([(edge[1], edge[2], edge[3]["class"], edge[3]["paid"], edge[3]["share"][:5]) for edge in edges],
-                         [("A", "B", "1", "3", "1.0"), ("A", "B", "2", "1", "0.333"), ("B", "A", "1", "0", "1.0")])
+        self.assertEqual(
+            (nodes["A"]["outside"], nodes["A"]["outside_paid"], nodes["A"]["state"]), ("5", "5", "fundamental")
+        )
+        self.assertEqual(
+            [(edge[1], edge[2], edge[3]["class"], edge[3]["paid"], edge[3]["share"][:5]) for edge in edges],
+            [("A", "B", "1", "3", "1.0"), ("A", "B", "2", "1", "0.333"), ("B", "A", "1", "0", "1.0")],
+        )
         self.assertIn("C", nodes)
         # With the journal behind the payments, CR LF and a byte order mark, and without the banks file.
         both = clearing("clear", *files, "--show", "both").stdout.replace(b"\n", b"\r\n")
-        texts = [self.file("both", b"\xef\xbb\xbf" + both), self.file("defaults", b"\xef\xbb\xbf" + clearing("defaults", *files).stdout.replace(b"\n", b"\r\n"))]
+        texts = [
+            self.file("both", b"\xef\xbb\xbf" + both),
+            self.file("defaults", b"\xef\xbb\xbf" + clearing("defaults", *files).stdout.replace(b"\n", b"\r\n")),
+        ]
         again = self.read(texts)
         self.assertEqual(again[1], edges)
         self.assertNotIn("cash", again[0]["A"])
 
     def test_networkx_reads_it_back(self):
         self.graph(*TWELVE)
-        code = "import networkx, sys; g = networkx.read_graphml(sys.argv[1]); print(type(g).__name__, g.number_of_nodes(), g.number_of_edges(), " \
-               "sum(d['paid'] for *_, d in g.edges(data=True)), g.nodes['Isar']['state'])"
+        code = (
+            "import networkx, sys; g = networkx.read_graphml(sys.argv[1]); print(type(g).__name__, g.number_of_nodes(),"
+            " g.number_of_edges(), sum(d['paid'] for *_, d in g.edges(data=True)), g.nodes['Isar']['state'])"
+        )
         run = [python_with("networkx"), "-c", code, str(self.folder / "graph.graphml")]
-        self.assertEqual(subprocess.check_output(run, encoding="utf-8").split(), ["DiGraph", "12", "40", "8256671", "fundamental"])
+        self.assertEqual(
+            subprocess.check_output(run, encoding="utf-8").split(), ["DiGraph", "12", "40", "8256671", "fundamental"]
+        )
 
     def test_a_name_that_xml_cannot_hold_stands_as_its_code(self):
         names = ["A\ufffe", "A\uffff", "A<U+FFFE>"]
-        files = ["--banks", self.file("b.csv", "name,cash,rule\n" + "".join(f"{name},1,order\n" for name in names)),
-                 "--debts", self.file("d.csv", "debtor,creditor,class,claim\n")]
+        files = [
+            "--banks",
+            self.file("b.csv", "name,cash,rule\n" + "".join(f"{name},1,order\n" for name in names)),
+            "--debts",
+            self.file("d.csv", "debtor,creditor,class,claim\n"),
+        ]
         nodes, _ = self.graph(*files)
         self.assertEqual(list(nodes), ["A<U+FFFE>", "A<U+FFFF>", "A<U+003C>U+FFFE>"])
 

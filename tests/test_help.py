@@ -7,8 +7,8 @@ HEADS = ("In:", "Out:", "Ends with 0")
 
 
 def faults_of(said):
-    """What is wrong with the layout of a help text: a head that begins no line, and a line of the paragraphs of In and Out that does not
-    stand below their text."""
+    """What is wrong with the layout of a help text: a head that begins no line, and a line of the paragraphs of In
+    and Out that does not stand below their text."""
     faults = [head for head in HEADS if sum(line.startswith(head) for line in said.split("\n")) != 1]
     start = min((place for place in map(said.find, ("\nIn:", "\nOut:")) if place >= 0), default=0)
     lines = said[start:].strip("\n").partition("\n\n")[0].split("\n")

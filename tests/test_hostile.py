@@ -1,5 +1,5 @@
-"""Names of every allowed character through every tool. No tool changes what it reads, writes anywhere but where it is told, or ends
-with 0 after a failure. What a browser shows of such names in a report is tried in test_report_names.
+"""Names of every allowed character through every tool. No tool changes what it reads, writes anywhere but where it is
+told, or ends with 0 after a failure. What a browser shows of such names in a report is tried in test_report_names.
 
 The seed is fixed. HOSTILE_SEED gives another, and HOSTILE_ROUNDS more networks of random names."""
 import csv
@@ -26,19 +26,154 @@ RULES = ["order", "equal", "losses", "jefferson", "webster", "adams"]
 
 # Names that an option, a formula, HTML, a shell, JSON, TOML, LaTeX, a path or a table of the program may be.
 FORMS = [
-    "-", "--", "-x", "--help", "--banks", "--bank=A", "-o/X", "-1", "+1", "=1+1", "@x", "=cmd|' /C X'!A0", "=HYPERLINK(1)", "\u00a0=1",
-    "<script>alert(1)</script>", "</script>", "<img src=x onerror=X>", "&lt;", "&#0;", "<!--", "-->", "<![CDATA[", "]]>", "javascript:1", "</svg>",
-    "$(touch X)", "`touch X`", "; touch X", "| touch X", "& touch X", "> X", "' ; touch X ; '", "$HOME", "${IFS}", "~", "*", "?", "!x", "\\", "\\\\",
-    "'", "''", "'''", "{}", "[1]", "{'a': 1}", "null", "\\u0041", "\\n", "\\", "[[scenario]]", "a = 1", "#x", "# x", "{{x}}", "${x}", "{0}", "%s", "%(x)s",
-    "$\\alpha$", "$x_1$", "$x_{", "$$", "$", "\\$", "a$b$c", "\\input{X}", "\\write18{touch X}", "x_y^z", "%", "/etc/passwd", "../X", "../../X", "./X",
-    "C:\\X", "X/", "/", ".", "..", "NUL", ".git", "total", "cash", "rounds", "bank", "scenario", "cut", "of", "name", "debtor", "creditor", "class",
-    "claim", "paid", "lawful", "cancelled", "rescue", "short", "banks", "debts", "rule", "outside", "order", "webster", "yes", "NA", "nan", "None", "True",
-    "0", "1", "01", "1.0", "1e3", "1_000", "0x1", "inf", "-0", "٣", "²", "½", "A", "a", "Å", "A\u030a", "\u212b", "ﬁ", "ß", "SS", "İ", "i\u0307", "ΐ",
+    "-",
+    "--",
+    "-x",
+    "--help",
+    "--banks",
+    "--bank=A",
+    "-o/X",
+    "-1",
+    "+1",
+    "=1+1",
+    "@x",
+    "=cmd|' /C X'!A0",
+    "=HYPERLINK(1)",
+    "\u00a0=1",
+    "<script>alert(1)</script>",
+    "</script>",
+    "<img src=x onerror=X>",
+    "&lt;",
+    "&#0;",
+    "<!--",
+    "-->",
+    "<![CDATA[",
+    "]]>",
+    "javascript:1",
+    "</svg>",
+    "$(touch X)",
+    "`touch X`",
+    "; touch X",
+    "| touch X",
+    "& touch X",
+    "> X",
+    "' ; touch X ; '",
+    "$HOME",
+    "${IFS}",
+    "~",
+    "*",
+    "?",
+    "!x",
+    "\\",
+    "\\\\",
+    "'",
+    "''",
+    "'''",
+    "{}",
+    "[1]",
+    "{'a': 1}",
+    "null",
+    "\\u0041",
+    "\\n",
+    "\\",
+    "[[scenario]]",
+    "a = 1",
+    "#x",
+    "# x",
+    "{{x}}",
+    "${x}",
+    "{0}",
+    "%s",
+    "%(x)s",
+    "$\\alpha$",
+    "$x_1$",
+    "$x_{",
+    "$$",
+    "$",
+    "\\$",
+    "a$b$c",
+    "\\input{X}",
+    "\\write18{touch X}",
+    "x_y^z",
+    "%",
+    "/etc/passwd",
+    "../X",
+    "../../X",
+    "./X",
+    "C:\\X",
+    "X/",
+    "/",
+    ".",
+    "..",
+    "NUL",
+    ".git",
+    "total",
+    "cash",
+    "rounds",
+    "bank",
+    "scenario",
+    "cut",
+    "of",
+    "name",
+    "debtor",
+    "creditor",
+    "class",
+    "claim",
+    "paid",
+    "lawful",
+    "cancelled",
+    "rescue",
+    "short",
+    "banks",
+    "debts",
+    "rule",
+    "outside",
+    "order",
+    "webster",
+    "yes",
+    "NA",
+    "nan",
+    "None",
+    "True",
+    "0",
+    "1",
+    "01",
+    "1.0",
+    "1e3",
+    "1_000",
+    "0x1",
+    "inf",
+    "-0",
+    "٣",
+    "²",
+    "½",
+    "A",
+    "a",
+    "Å",
+    "A\u030a",
+    "\u212b",
+    "ﬁ",
+    "ß",
+    "SS",
+    "İ",
+    "i\u0307",
+    "ΐ",
 ]
 # Where characters of a kind stand, each drawn as often as the others.
 RANGES = [
-    (0x20, 0x7E), (0x20, 0x7E), (0xA0, 0x24F), (0x300, 0x36F), (0x590, 0x6FF), (0x2000, 0x206F), (0x3000, 0x9FFF), (0xA0, 0xD7FF), (0xE000, 0xFDCF),
-    (0xFE00, 0xFFFD), (0x10000, 0x1FFFF), (0xE0000, 0xE01EF), (0x10000, 0x10FFFF),
+    (0x20, 0x7E),
+    (0x20, 0x7E),
+    (0xA0, 0x24F),
+    (0x300, 0x36F),
+    (0x590, 0x6FF),
+    (0x2000, 0x206F),
+    (0x3000, 0x9FFF),
+    (0xA0, 0xD7FF),
+    (0xE000, 0xFDCF),
+    (0xFE00, 0xFFFD),
+    (0x10000, 0x1FFFF),
+    (0xE0000, 0xE01EF),
+    (0x10000, 0x10FFFF),
 ]
 
 
@@ -103,7 +238,8 @@ def ended_by(work):
 
 
 class Place(Case):
-    """A case whose inputs, outputs, working folder, home and temporary files each have a folder, of which all but the outputs stay as they are."""
+    """A case whose inputs, outputs, working folder, home and temporary files each have a folder, of which all but the
+    outputs stay as they are."""
 
     def setUp(self):
         super().setUp()
@@ -111,8 +247,12 @@ class Place(Case):
             (self.folder / name).mkdir()
         self.inputs, self.out = self.folder / "in", self.folder / "out"
         self.environment = {
-            **os.environ, "CLEARING": os.path.realpath(PROGRAM), "HOME": str(self.folder / "home"), "TMPDIR": str(self.folder / "temporary"),
-            "MPLCONFIGDIR": str(self.folder / "matplotlib"), "PYTHONDONTWRITEBYTECODE": "1",
+            **os.environ,
+            "CLEARING": os.path.realpath(PROGRAM),
+            "HOME": str(self.folder / "home"),
+            "TMPDIR": str(self.folder / "temporary"),
+            "MPLCONFIGDIR": str(self.folder / "matplotlib"),
+            "PYTHONDONTWRITEBYTECODE": "1",
         }
 
     def given(self, name, content):
@@ -132,7 +272,8 @@ class Place(Case):
         return found
 
     def attempt(self, name, *words, python=None, stdout=None, program=None):
-        """A run of a tool, after which all but the outputs is as it was. `stdout` is a file for its output, or -1 for none at all."""
+        """A run of a tool, after which all but the outputs is as it was. `stdout` is a file for its output, or -1 for
+        none at all."""
         before = self.all_but_outputs()
         environment = {**self.environment, "CLEARING": str(program)} if program else self.environment
         with open(self.folder / "stdout", "w+b") as out, open(self.folder / "stderr", "w+b") as err:
@@ -141,13 +282,22 @@ class Place(Case):
                 status = self.forked(name, words, environment, stdout or out, err)
             else:
                 close = {"preexec_fn": lambda: os.close(1)} if stdout == -1 else {}
-                status = subprocess.run([*run_of(name, python), *words], cwd=self.folder / "work", env=environment, stdin=subprocess.DEVNULL,
-                                        stdout=None if stdout == -1 else stdout or out, stderr=err, **close).returncode
+                status = subprocess.run(
+                    [*run_of(name, python), *words],
+                    cwd=self.folder / "work",
+                    env=environment,
+                    stdin=subprocess.DEVNULL,
+                    stdout=None if stdout == -1 else stdout or out,
+                    stderr=err,
+                    **close,
+                ).returncode
             out.seek(0)
             err.seek(0)
             done = subprocess.CompletedProcess([name, *words], status, out.read(), err.read())
         after = self.all_but_outputs()
-        self.assertEqual([key for key in before.keys() | after.keys() if before.get(key) != after.get(key)], [], (name, words))
+        self.assertEqual(
+            [key for key in before.keys() | after.keys() if before.get(key) != after.get(key)], [], (name, words)
+        )
         # Python itself says what it is to have no output.
         self.assertFalse(b"Traceback" in done.stderr and stdout != -1, (name, words, done.stderr.decode()))
         return done
@@ -189,7 +339,10 @@ class Place(Case):
         rng = random.Random(f"network {seed}")
         banks = [[name, at % 5, RULES[at % 6], at % 3] for at, name in enumerate(names)]
         debts = [[name, names[(at + 1) % len(names)], 1, 2 + at % 7] for at, name in enumerate(names)]
-        debts += [[name, names[(at + rng.randint(2, len(names) - 1)) % len(names)], 1, rng.randint(1, 9)] for at, name in enumerate(names)]
+        debts += [
+            [name, names[(at + rng.randint(2, len(names) - 1)) % len(names)], 1, rng.randint(1, 9)]
+            for at, name in enumerate(names)
+        ]
         # Each pair once, since a matrix has one cell for it.
         debts = list({tuple(debt[:2]): debt for debt in debts}.values())
         order = {name: at for at, name in enumerate(names)}
@@ -197,8 +350,13 @@ class Place(Case):
         line = lambda record: ",".join(map(str, record)) + "\n"
         self.banks = self.given("banks.csv", "name,cash,rule,outside\n" + "".join(map(line, banks)))
         self.debts = self.given("debts.csv", "debtor,creditor,class,claim\n" + "".join(map(line, debts)))
-        losses = "".join(f"[[scenario.loss]]\nbank = {toml(name)}\namount = {at % 4}\n" for at, name in enumerate(names))
-        self.scenarios = self.given("scenarios.toml", f"[[scenario]]\nname = {toml(names[0])}\ncut = 100\n{losses}[[scenario]]\nname = {toml(names[-1])}\n")
+        losses = "".join(
+            f"[[scenario.loss]]\nbank = {toml(name)}\namount = {at % 4}\n" for at, name in enumerate(names)
+        )
+        self.scenarios = self.given(
+            "scenarios.toml",
+            f"[[scenario]]\nname = {toml(names[0])}\ncut = 100\n{losses}[[scenario]]\nname = {toml(names[-1])}\n",
+        )
         self.files = ["--banks", self.banks, "--debts", self.debts]
         return banks, debts
 
@@ -209,7 +367,10 @@ class Place(Case):
 
     def texts(self):
         """What the program prints of the network, as files, by the task."""
-        found = {task: self.given(f"{task}.csv", self.text(task)) for task in ("clear", "defaults", "bounds", "check", "compress", "convert")}
+        found = {
+            task: self.given(f"{task}.csv", self.text(task))
+            for task in ("clear", "defaults", "bounds", "check", "compress", "convert")
+        }
         found["both"] = self.given("both.csv", self.text("clear", "--show", "both", "--workers", "1"))
         found["journal"] = self.given("journal.csv", self.text("clear", "--show", "journal", "--workers", "1"))
         found["stress"] = self.given("stress.csv", self.text("stress", "--scenarios", self.scenarios))
@@ -234,7 +395,16 @@ class Names(Place):
             self.assertIn(last, ("no fault", "no fault, 1 warning", f"no fault, {len(warned):,} warnings"))
             self.assertEqual(last == "no fault", not warned)
             texts = self.texts()
-            told = self.well("clearing-audit", *self.files, "--journal", texts["journal"], "--payments", texts["clear"], "--defaults", texts["defaults"])
+            told = self.well(
+                "clearing-audit",
+                *self.files,
+                "--journal",
+                texts["journal"],
+                "--payments",
+                texts["clear"],
+                "--defaults",
+                texts["defaults"],
+            )
             self.assertIn("nobody can pay more\npayments same\ndefaults same\n", told)
             printed = self.banks.read_bytes(), self.debts.read_bytes()
             # There and back again. Names that lines of totals have are said to be banks.
@@ -270,7 +440,15 @@ class Names(Place):
                         self.assertEqual([record[0] for record in records[1:]], names, path)
             left = self.well("clearing-shock", "--banks", self.banks, "--scenarios", self.scenarios, "--scenario", 1)
             self.assertEqual([record[0] for record in records_of(left)[1:]], names)
-            svg = self.well("clearing-who-pays", texts["clear"], texts["defaults"], "--bounds", texts["bounds"], "--banks", self.banks)
+            svg = self.well(
+                "clearing-who-pays",
+                texts["clear"],
+                texts["defaults"],
+                "--bounds",
+                texts["bounds"],
+                "--banks",
+                self.banks,
+            )
             self.assertNotIn("<script>", svg)
             tree.fromstring(svg)
 
@@ -279,7 +457,10 @@ class Names(Place):
             for name in ("clearing-breaking", "clearing-impact", "clearing-rescues"):
                 records = records_of(self.well(name, *self.files))
                 known = [record[0] for record in records[1:]]
-                self.assertEqual(known if name == "clearing-breaking" else sorted(known), names if name == "clearing-breaking" else sorted(set(known)))
+                self.assertEqual(
+                    known if name == "clearing-breaking" else sorted(known),
+                    names if name == "clearing-breaking" else sorted(set(known)),
+                )
                 self.assertLessEqual(set(known), set(names))
             given = [name for name in names if name != "cut"]
             moments = self.given("moments.csv", "of,mean,deviation\n" + "".join(f"{name},1,1\n" for name in given))
@@ -302,8 +483,12 @@ class Names(Place):
         for names, banks, debts in self.each_network():
             asked = [name for name in names if not name.startswith("-")][:12]
             lines = [["rescue", *map(str, self.files), "--bank", name] for name in asked]
-            jobs = self.given("jobs.tsv", "".join("\t".join([f"job-{at}", *words]) + "\n" for at, words in enumerate(lines)))
-            self.assertEqual(self.well("clearing-many", "run", jobs, self.out / "many", 2), f"{len(asked)} done, 0 failed\n")
+            jobs = self.given(
+                "jobs.tsv", "".join("\t".join([f"job-{at}", *words]) + "\n" for at, words in enumerate(lines))
+            )
+            self.assertEqual(
+                self.well("clearing-many", "run", jobs, self.out / "many", 2), f"{len(asked)} done, 0 failed\n"
+            )
             for at, name in enumerate(asked):
                 made = (self.out / f"many/job-{at}.out").read_text(encoding="utf-8")
                 self.assertEqual(made.split("\n")[0].split(",")[:2], ["rescue", name])
@@ -334,18 +519,38 @@ class Names(Place):
             words = texts["clear"], texts["defaults"], "--banks", self.banks, "--out", graph
             self.well("clearing-to-graphml", *words, python=python_with("networkx"))
             nodes = tree.parse(graph).getroot().iter("{http://graphml.graphdrawing.org/xmlns}node")
-            self.assertEqual([node.get("id") for node in nodes], [name.replace("\ufffe", "<U+FFFE>").replace("\uffff", "<U+FFFF>") for name in names])
+            self.assertEqual(
+                [node.get("id") for node in nodes],
+                [name.replace("\ufffe", "<U+FFFE>").replace("\uffff", "<U+FFFF>") for name in names],
+            )
 
     @unittest.skipUnless(python_with("matplotlib"), "no Python here has matplotlib")
     def test_names_come_through_the_pictures(self):
         # Those that matplotlib could take for mathematics, and the others drawn.
         odd = [name for name in next(networks()) if "$" in name or "\\" in name or "_" in name]
-        texts, python, picture = self.write_network(odd + names_of(random.Random(SEED), 12)) and self.texts(), python_with("matplotlib"), self.out / "picture.svg"
-        self.well("clearing-shortfalls", texts["defaults"], picture, "--banks", self.banks, "--payments", texts["clear"], "--currency", "$x_{", python=python)
+        texts, python, picture = (
+            self.write_network(odd + names_of(random.Random(SEED), 12)) and self.texts(),
+            python_with("matplotlib"),
+            self.out / "picture.svg",
+        )
+        self.well(
+            "clearing-shortfalls",
+            texts["defaults"],
+            picture,
+            "--banks",
+            self.banks,
+            "--payments",
+            texts["clear"],
+            "--currency",
+            "$x_{",
+            python=python,
+        )
         tree.parse(picture)
         self.well("clearing-stress-map", texts["stress"], picture, "--banks", self.banks, python=python)
         tree.parse(picture)
-        self.well("clearing-impact", *self.files, "--ranking", self.out / "ranking.csv", "--picture", picture, python=python)
+        self.well(
+            "clearing-impact", *self.files, "--ranking", self.out / "ranking.csv", "--picture", picture, python=python
+        )
         tree.parse(picture)
 
     @unittest.skipUnless(python_with("numpy"), "no Python here has numpy")
@@ -358,7 +563,18 @@ class Names(Place):
             lines = [f"{name},{assets},{liabilities},7\n" for name, (assets, liabilities) in totals.items()]
             given = self.given("totals.csv", "name,assets,liabilities,cash\n" + "".join(lines))
             keep = [f"--keep={name}" for name in names]
-            self.well("clearing-from-totals", given, "--out", self.out / "totals", "--method", "sparse", "--tries", 2, *keep, python=python_with("numpy"))
+            self.well(
+                "clearing-from-totals",
+                given,
+                "--out",
+                self.out / "totals",
+                "--method",
+                "sparse",
+                "--tries",
+                2,
+                *keep,
+                python=python_with("numpy"),
+            )
             made = records_of((self.out / "totals/banks.csv").read_text(encoding="utf-8"))
             self.assertEqual([record[0] for record in made[1:]], names)
 
@@ -381,7 +597,20 @@ class Failures(Place):
         # The tool; its words, in which `OUT` is the place of an output; whether it asks the program; its Python.
         self.lines = [
             ("clearing-lint", network, False, None),
-            ("clearing-audit", [*network, "--journal", texts["journal"], "--payments", texts["clear"], "--defaults", texts["defaults"]], False, None),
+            (
+                "clearing-audit",
+                [
+                    *network,
+                    "--journal",
+                    texts["journal"],
+                    "--payments",
+                    texts["clear"],
+                    "--defaults",
+                    texts["defaults"],
+                ],
+                False,
+                None,
+            ),
             ("clearing-to-matrix", network, False, None),
             ("clearing-to-matrix", [*network, "--payments", texts["clear"], "--out", "OUT"], False, None),
             ("clearing-from-matrix", [matrix, "--banks", "OUT", "--debts", to / "d.csv"], False, None),
@@ -390,15 +619,40 @@ class Failures(Place):
             ("clearing-from-list", [listed, "--table", table, "--banks", to / "b.csv", "--debts", "OUT"], False, None),
             ("clearing-from-totals", [totals, "--out", "OUT"], False, numbers),
             ("clearing-tidy", [texts["both"], "--folder", "OUT"], False, None),
-            ("clearing-to-graphml", [texts["clear"], texts["defaults"], "--banks", self.banks, "--out", "OUT"], False, graph),
-            ("clearing-who-pays", [texts["clear"], texts["defaults"], "--bounds", texts["bounds"], "--banks", self.banks], False, None),
+            (
+                "clearing-to-graphml",
+                [texts["clear"], texts["defaults"], "--banks", self.banks, "--out", "OUT"],
+                False,
+                graph,
+            ),
+            (
+                "clearing-who-pays",
+                [texts["clear"], texts["defaults"], "--bounds", texts["bounds"], "--banks", self.banks],
+                False,
+                None,
+            ),
             ("clearing-who-pays", [texts["clear"], texts["defaults"], "--output", "OUT"], False, None),
             ("clearing-shock", ["--banks", self.banks, "--scenarios", self.scenarios, "--scenario", 1], False, None),
-            ("clearing-shock", ["--banks", self.banks, "--scenarios", self.scenarios, "--scenario", 1, "--output", "OUT"], False, None),
+            (
+                "clearing-shock",
+                ["--banks", self.banks, "--scenarios", self.scenarios, "--scenario", 1, "--output", "OUT"],
+                False,
+                None,
+            ),
             ("clearing-shortfalls", [texts["defaults"], "OUT.svg", "--payments", texts["clear"]], False, drawing),
             ("clearing-stress-map", [texts["stress"], "OUT.svg", "--banks", self.banks], False, drawing),
-            ("clearing-gen-files", ["--seed", 1, "--size", 4, "--tries", 9, "--banks", "OUT", "--debts", to / "d.csv"], False, None),
-            ("clearing-gen-files", ["--seed", 1, "--size", 4, "--tries", 9, "--banks", to / "b.csv", "--debts", "OUT"], False, None),
+            (
+                "clearing-gen-files",
+                ["--seed", 1, "--size", 4, "--tries", 9, "--banks", "OUT", "--debts", to / "d.csv"],
+                False,
+                None,
+            ),
+            (
+                "clearing-gen-files",
+                ["--seed", 1, "--size", 4, "--tries", 9, "--banks", to / "b.csv", "--debts", "OUT"],
+                False,
+                None,
+            ),
             ("clearing-why", ["check", *network], False, None),
             ("clearing-breaking", network, True, None),
             ("clearing-breaking", [*network, "--output", "OUT"], True, None),
@@ -409,7 +663,12 @@ class Failures(Place):
             ("clearing-rescues", [*network, "--saved", "OUT"], True, None),
             ("clearing-draws", [*network, "--moments", moments, "--draws", 3], True, None),
             ("clearing-draws", [*network, "--moments", moments, "--draws", 3, "--each", "OUT"], True, None),
-            ("clearing-report", [*network, "--scenarios", self.scenarios, "--journal", texts["journal"], "--out", "OUT"], True, None),
+            (
+                "clearing-report",
+                [*network, "--scenarios", self.scenarios, "--journal", texts["journal"], "--out", "OUT"],
+                True,
+                None,
+            ),
             ("clearing-report", [*network, "--out", to / "page.html", "--keep", "OUT"], True, None),
             ("clearing-evidence", ["make", "OUT", *network, "--scenarios", self.scenarios, "--bank", "A"], True, None),
             ("clearing-many", ["run", jobs, "OUT", 1], True, None),
@@ -425,7 +684,12 @@ class Failures(Place):
     def each(self):
         """The lines that can be tried here."""
         for name, words, asks, python in self.lines:
-            if python or name not in ("clearing-from-totals", "clearing-to-graphml", "clearing-shortfalls", "clearing-stress-map"):
+            if python or name not in (
+                "clearing-from-totals",
+                "clearing-to-graphml",
+                "clearing-shortfalls",
+                "clearing-stress-map",
+            ):
                 yield name, words, asks, {"python": python}
 
     def placed(self, words, place):
@@ -448,7 +712,12 @@ class Failures(Place):
                 # The words alone are what why.py judges.
                 if isinstance(word, pathlib.Path) and self.inputs in word.parents and name != "clearing-why":
                     other = self.inputs / "none" if at % 2 else self.inputs
-                    self.fails(name, self.placed([*words[:at], other, *words[at + 1 :]], self.out / "place"), how, f"{word.name} is {other.name}")
+                    self.fails(
+                        name,
+                        self.placed([*words[:at], other, *words[at + 1 :]], self.out / "place"),
+                        how,
+                        f"{word.name} is {other.name}",
+                    )
 
     def test_an_output_that_cannot_be_written_is_a_failure(self):
         stop, device = self.given("stop", ""), self.out / "device"
@@ -471,13 +740,26 @@ class Failures(Place):
             if not self.well(name, *self.placed(words, self.out / f"place-{number}"), **how):
                 continue
             with open("/dev/full", "wb") as full:
-                self.fails(name, self.placed(words, self.out / f"full-{number}"), {**how, "stdout": full}, "a full standard output")
-            self.fails(name, self.placed(words, self.out / f"closed-{number}"), {**how, "stdout": -1}, "a closed standard output")
+                self.fails(
+                    name,
+                    self.placed(words, self.out / f"full-{number}"),
+                    {**how, "stdout": full},
+                    "a full standard output",
+                )
+            self.fails(
+                name,
+                self.placed(words, self.out / f"closed-{number}"),
+                {**how, "stdout": -1},
+                "a closed standard output",
+            )
 
     def test_a_program_that_fails_is_a_failure(self):
-        for about, body in [("want of memory", "echo 'clearing: out of memory' >&2; exit 6"), ("killed", "kill -9 $$"),
-                            ("its output is not written", 'echo "bank,estate,paid,owed,equity,state"; exit 5'),
-                            ("it says something else", "echo lawful; exit 0")]:
+        for about, body in [
+            ("want of memory", "echo 'clearing: out of memory' >&2; exit 6"),
+            ("killed", "kill -9 $$"),
+            ("its output is not written", 'echo "bank,estate,paid,owed,equity,state"; exit 5'),
+            ("it says something else", "echo lawful; exit 0"),
+        ]:
             script = self.given("program", f"#!/bin/sh\n{body}\n")
             script.chmod(0o755)
             for number, (name, words, asks, how) in enumerate(self.each()):
@@ -488,7 +770,9 @@ class Failures(Place):
                     if name not in ("clearing-many",):
                         self.assertFalse(place.exists(), (about, name))
             script.unlink()
-        self.fails("clearing-many", ["one", self.inputs / "jobs.tsv", self.out / "many", 1], {"program": "/none"}, "no program")
+        self.fails(
+            "clearing-many", ["one", self.inputs / "jobs.tsv", self.out / "many", 1], {"program": "/none"}, "no program"
+        )
 
 
 if __name__ == "__main__":

@@ -27,8 +27,10 @@ class Imports(Case):
         self.assertIn("clearing_tools.runner", below["clearing_tools.files"])
         with self.assertRaisesRegex(SystemExit, "in a ring"):
             imports.levels_of({**below, "clearing_tools.runner": {"clearing_tools.files"}})
-        self.assertEqual(imports.faults_of({**below, "clearing_tools.evidence.audit": {"clearing_tools.files"}}),
-                         ["clearing_tools.evidence.audit imports clearing_tools.files"])
+        self.assertEqual(
+            imports.faults_of({**below, "clearing_tools.evidence.audit": {"clearing_tools.files"}}),
+            ["clearing_tools.evidence.audit imports clearing_tools.files"],
+        )
 
     def test_an_import_by_a_name_is_told(self):
         self.assertEqual(imports.hidden_in(imports.modules()), [])

@@ -31,7 +31,9 @@ class Install(Case):
         self.assertEqual(sorted(told), sorted(str(path) for path in prefix.rglob("*") if not path.is_dir()))
         # The help names all of it, and nothing else.
         lines = self.installed("--help").stdout
-        places = [f"{prefix}/{place.rstrip('.,;').partition('NAME')[0]}" for place in re.findall(r"PREFIX/(\S+)", lines)]
+        places = [
+            f"{prefix}/{place.rstrip('.,;').partition('NAME')[0]}" for place in re.findall(r"PREFIX/(\S+)", lines)
+        ]
         self.assertEqual([file for file in told if not file.startswith(tuple(places))], [])
         self.assertEqual([place for place in places if not any(file.startswith(place) for file in told)], [])
         for what in ("bash", "zsh", "fish", "Python package"):
@@ -39,11 +41,18 @@ class Install(Case):
         self.assertTrue(" ".join(lines.split()).endswith("where the words are not understood."), lines)
         # A tool from there, by its own name, and one that runs the program.
         for folder in ("chain", "hub"):
-            files = [word for kind in ("banks", "debts") for word in (f"--{kind}", ROOT / f"examples/{folder}/{kind}.csv")]
+            files = [
+                word for kind in ("banks", "debts") for word in (f"--{kind}", ROOT / f"examples/{folder}/{kind}.csv")
+            ]
             self.assertEqual(subprocess.check_output([prefix / "bin/clearing-lint", *files]), b"no fault\n")
         jobs = self.file("jobs.tsv", "a\tgen\t7\n")
         environment = {**os.environ, "CLEARING": ""}
-        subprocess.run([prefix / "bin/clearing-many", "run", jobs, self.folder / "out"], env=environment, check=True, capture_output=True)
+        subprocess.run(
+            [prefix / "bin/clearing-many", "run", jobs, self.folder / "out"],
+            env=environment,
+            check=True,
+            capture_output=True,
+        )
         self.assertEqual((self.folder / "out/a.out").read_text(), "gen 7\n")
         # A second time, over the first.
         self.assertEqual(self.installed(prefix).stdout, done.stdout)
@@ -52,11 +61,21 @@ class Install(Case):
     def test_evidence_is_checked_by_the_program_beside_the_tools(self):
         prefix, evidence = self.folder / "prefix", self.folder / "evidence"
         built = ROOT / "crates/clear_main/out/clear_main"
-        self.assertEqual(self.installed(prefix, program=built if pathlib.Path(PROGRAM) == ROOT / "clearing" else PROGRAM).returncode, 0)
+        self.assertEqual(
+            self.installed(prefix, program=built if pathlib.Path(PROGRAM) == ROOT / "clearing" else PROGRAM).returncode,
+            0,
+        )
         files = [word for kind in ("banks", "debts") for word in (f"--{kind}", ROOT / f"examples/chain/{kind}.csv")]
         environment = {**os.environ, "CLEARING": ""}
-        subprocess.run([prefix / "bin/clearing-evidence", "make", evidence, *files], env=environment, check=True, capture_output=True)
-        told = subprocess.check_output([prefix / "bin/clearing-evidence", "check", evidence], env=environment, encoding="utf-8")
+        subprocess.run(
+            [prefix / "bin/clearing-evidence", "make", evidence, *files],
+            env=environment,
+            check=True,
+            capture_output=True,
+        )
+        told = subprocess.check_output(
+            [prefix / "bin/clearing-evidence", "check", evidence], env=environment, encoding="utf-8"
+        )
         self.assertRegex(told, "(?m)^as it is, replayed by the program: lawful,2; payments same$")
         self.assertNotIn("none is built", told)
 

@@ -20,7 +20,10 @@ TEXT = (ROOT / "docs/INTERPRETING.md").read_text(encoding="utf-8")
 def told(task, name):
     files = [f"examples/{name}/{kind}.csv" for kind in ("banks", "debts")]
     run = [PROGRAM, task, "--banks", files[0], "--debts", files[1]]
-    return [line.split(",") for line in subprocess.run(run, cwd=ROOT, capture_output=True, encoding="utf-8", check=True).stdout.splitlines()]
+    return [
+        line.split(",")
+        for line in subprocess.run(run, cwd=ROOT, capture_output=True, encoding="utf-8", check=True).stdout.splitlines()
+    ]
 
 
 def by_program(name):
@@ -57,8 +60,12 @@ class RealNumbers(unittest.TestCase):
 
     def test_words_that_are_none_are_told(self):
         for words in ([], ["--one-class"], ["examples/core", "--two"]):
-            done = subprocess.run([sys.executable, "examples/pro-rata/real.py", *words], cwd=ROOT, capture_output=True, encoding="utf-8")
-            self.assertEqual((done.returncode, done.stdout, done.stderr), (1, "", "usage: python3 real.py FOLDER [--one-class]\n"))
+            done = subprocess.run(
+                [sys.executable, "examples/pro-rata/real.py", *words], cwd=ROOT, capture_output=True, encoding="utf-8"
+            )
+            self.assertEqual(
+                (done.returncode, done.stdout, done.stderr), (1, "", "usage: python3 real.py FOLDER [--one-class]\n")
+            )
 
     def test_a_step_goes_over_all_debts_a_few_times_however_many_banks_there_are(self):
         class Counted(list):
@@ -78,8 +85,10 @@ class RealNumbers(unittest.TestCase):
 class Ties(unittest.TestCase):
     def test_equal_claims_in_one_order_are_met_from_the_front_in_each_division(self):
         """The 40 banks of its paragraph on rounding, by the plain model."""
-        said = ("Let 40 banks each owe the same 40 creditors 1 unit, in the same order, and have 20 units to pay with. By "
-                "`webster` the first 20 creditors are then paid in full by all, and the other 20 get nothing.")
+        said = (
+            "Let 40 banks each owe the same 40 creditors 1 unit, in the same order, and have 20 units to pay with. By "
+            "`webster` the first 20 creditors are then paid in full by all, and the other 20 get nothing."
+        )
         self.assertIn(said, " ".join(TEXT.split()))
         self.assertEqual(share("webster", 40 * (1,), 40 * (1,), 20), 20 * [1] + 20 * [0])
 
@@ -109,7 +118,9 @@ class Ties(unittest.TestCase):
 
 class Table(unittest.TestCase):
     def test_it_has_what_the_program_and_real_numbers_give(self):
-        rows = [[cell.strip() for cell in line.strip("|").split("|")] for line in TEXT.splitlines() if line.startswith("| ")]
+        rows = [
+            [cell.strip() for cell in line.strip("|").split("|")] for line in TEXT.splitlines() if line.startswith("| ")
+        ]
         for name in ("twelve-banks", "core", "gridlock"):
             start = next(place for place, row in enumerate(rows) if row[0].startswith(f"`{name}`") and len(row) == 5)
             paid, short = by_program(name)
@@ -134,7 +145,10 @@ class Table(unittest.TestCase):
         self.assertEqual(len(rows), len(debts))
         text = " ".join(TEXT.split())
         off = [[abs(int(row[place]) - amount) for row, amount in zip(rows, exact)] for place in (4, 5)]
-        self.assertIn(f"add up to {sum(off[0]):.1f} units over {len(debts)} debts, and none is above {max(off[0]) + 0.005:.2f}.", text)
+        self.assertIn(
+            f"add up to {sum(off[0]):.1f} units over {len(debts)} debts, and none is above {max(off[0]) + 0.005:.2f}.",
+            text,
+        )
         self.assertIn(f"For the greatest list they add up to {sum(off[1]):.1f}.", text)
         self.assertLess(sum(int(row[4]) for row in rows) - sum(exact), 4)
 

@@ -1,5 +1,5 @@
-"""Every task on networks of the greatest size, 1,000 banks, 20,000 debts and 10,000,000 units: beside the plain model tests/system/model.py
-where that is quick enough, else by another route to the same answer."""
+"""Every task on networks of the greatest size, 1,000 banks, 20,000 debts and 10,000,000 units: beside the plain model
+tests/system/model.py where that is quick enough, else by another route to the same answer."""
 import random
 import sys
 import unittest
@@ -14,7 +14,8 @@ BANKS, DEBTS, UNITS = 1000, 20000, 10_000_000
 
 
 def small_claims(rng):
-    """Small claims of all classes by all rules, where money is short. One rich bank owes what is left of the units, and pays it."""
+    """Small claims of all classes by all rules, where money is short. One rich bank owes what is left of the units,
+    and pays it."""
     keys = {}
     while len(keys) < DEBTS - 10:
         debtor, creditor = rng.randrange(1, BANKS), rng.randrange(BANKS)
@@ -23,21 +24,36 @@ def small_claims(rng):
     debts = [model.Debt(*key, claim) for key, claim in keys.items()]
     rest = UNITS - sum(keys.values())
     for creditor in range(1, 11):
-        debts.insert(rng.randrange(len(debts)), model.Debt(0, creditor, 3, rest // 10 + (rest % 10 if creditor == 1 else 0)))
-    banks = [model.Bank(f"Bank {i}", UNITS if i == 0 else rng.choice([0, 0, 20, 90]), model.RULES[i % 6], rng.choice([0, 0, 5])) for i in range(BANKS)]
+        debts.insert(
+            rng.randrange(len(debts)), model.Debt(0, creditor, 3, rest // 10 + (rest % 10 if creditor == 1 else 0))
+        )
+    banks = [
+        model.Bank(
+            f"Bank {i}", UNITS if i == 0 else rng.choice([0, 0, 20, 90]), model.RULES[i % 6], rng.choice([0, 0, 5])
+        )
+        for i in range(BANKS)
+    ]
     return model.Net(banks, debts)
 
 
 def large_claims():
     """Claims of hundreds of units by all rules, where half of the cash that would do is there."""
-    debts = [model.Debt(x % 1000, (x % 1000 + 1 + x // 1000 * 37) % 1000, 1 + x % 3, 1 + x * 104729 % 990) for x in range(DEBTS)]
+    debts = [
+        model.Debt(x % 1000, (x % 1000 + 1 + x // 1000 * 37) % 1000, 1 + x % 3, 1 + x * 104729 % 990)
+        for x in range(DEBTS)
+    ]
     banks = [model.Bank(f"bank {i}", i * 7919 % 2500, model.RULES[i * 5 % 6], i % 4) for i in range(BANKS)]
     return model.Net(banks, debts)
 
 
 class Largest(Case):
     def write(self, net):
-        self.files = ["--banks", self.file("banks.csv", model.banks_text(net, True)), "--debts", self.file("debts.csv", model.debts_text(net))]
+        self.files = [
+            "--banks",
+            self.file("banks.csv", model.banks_text(net, True)),
+            "--debts",
+            self.file("debts.csv", model.debts_text(net)),
+        ]
 
     def text(self, task, *more):
         return self.printed(task, *self.files, *more)
@@ -85,10 +101,17 @@ class Largest(Case):
 
     def stressed(self, net):
         """Scenarios one by one, each as the network that it leaves is cleared."""
-        scenarios = [model.Scenario("as it is", 0, []), model.Scenario("half", 500, []),
-                     model.Scenario("losses", 1, [(i, 1 + i % 50) for i in range(1, BANKS)]), model.Scenario("all", 1000, [])]
+        scenarios = [
+            model.Scenario("as it is", 0, []),
+            model.Scenario("half", 500, []),
+            model.Scenario("losses", 1, [(i, 1 + i % 50) for i in range(1, BANKS)]),
+            model.Scenario("all", 1000, []),
+        ]
         loss = lambda pair: f'[[scenario.loss]]\nbank = "{net.banks[pair[0]].name}"\namount = {pair[1]}\n'
-        toml = "".join(f'[[scenario]]\nname = "{one.name}"\ncut = {one.cut}\n' + "".join(map(loss, one.losses)) for one in scenarios)
+        toml = "".join(
+            f'[[scenario]]\nname = "{one.name}"\ncut = {one.cut}\n' + "".join(map(loss, one.losses))
+            for one in scenarios
+        )
         blocks, sums, fallen, own = [], "", [0] * BANKS, [0] * BANKS
         for scenario in scenarios:
             left = self.file("left.csv", model.banks_text(model.shocked(net, scenario), True))
@@ -97,13 +120,19 @@ class Largest(Case):
             blocks.append(f"scenario,{scenario.name}\n" + self.printed("central", *files) + defaults)
             *rows, total, cash = (line.split(",") for line in defaults.splitlines()[1:])
             states = [row[-1] for row in rows]
-            sums += f"{scenario.name},{cash[1]},{total[3]},{total[2]},{total[5]},{total[6]},{states.count('fundamental')}\n"
+            sums += (
+                f"{scenario.name},{cash[1]},{total[3]},{total[2]},{total[5]},{total[6]},{states.count('fundamental')}\n"
+            )
             fallen = [count + (state != "sound") for count, state in zip(fallen, states)]
             own = [count + (state == "fundamental") for count, state in zip(own, states)]
         self.same("\n".join(blocks), "stress", "--scenarios", self.file("s.toml", toml))
         counts = "".join(f"{bank.name},{count},{deep}\n" for bank, count, deep in zip(net.banks, fallen, own))
-        self.same(f"scenario,cash,paid,outside_paid,equity,defaults,fundamental\n{sums}\nbank,defaults,fundamental\n{counts}",
-                  "outcomes", "--scenarios", self.file("s.toml", toml))
+        self.same(
+            f"scenario,cash,paid,outside_paid,equity,defaults,fundamental\n{sums}\nbank,defaults,fundamental\n{counts}",
+            "outcomes",
+            "--scenarios",
+            self.file("s.toml", toml),
+        )
 
     def standing(self, banks):
         """What each bank keeps where the banks are these, and its state."""
@@ -118,12 +147,18 @@ class Largest(Case):
         with self.subTest(task="impact"):
             first, second = (part.splitlines()[1:] for part in self.text("impact").split("\n\n"))
             for j in some:
-                then, after = self.standing([bank._replace(cash=0) if i == j else bank for i, bank in enumerate(net.banks)])
+                then, after = self.standing(
+                    [bank._replace(cash=0) if i == j else bank for i, bank in enumerate(net.banks)]
+                )
                 lost = [old - new for old, new in zip(kept, then)]
                 falls = [old == "sound" != new for old, new in zip(states, after)]
                 name, cash = net.banks[j].name, net.banks[j].cash
                 self.assertEqual(first[j], f"{name},{cash},{lost[j]},{cash - lost[j]},{sum(falls) - falls[j]}")
-                wanted = [f"{name},{net.banks[i].name},{lost[i]},{'yes' if falls[i] else 'no'}" for i in range(BANKS) if lost[i] or falls[i]]
+                wanted = [
+                    f"{name},{net.banks[i].name},{lost[i]},{'yes' if falls[i] else 'no'}"
+                    for i in range(BANKS)
+                    if lost[i] or falls[i]
+                ]
                 self.assertEqual([line for line in second if line.startswith(f"{name},")], wanted)
         with self.subTest(task="breaking"):
             lines = [line.split(",") for line in self.text("breaking").splitlines()[1:]]
@@ -142,10 +177,17 @@ class Largest(Case):
                 name, added, lacks, also, still = first[at].split(",")
                 told = self.text("rescue", "--bank", name).split("\n", 2)
                 self.assertEqual(told[:2], [f"rescue,{name},{added}", f"short,{lacks}"])
-                after = self.standing([bank._replace(cash=bank.cash + int(added)) if i == short[at] else bank for i, bank in enumerate(net.banks)])[1]
+                after = self.standing(
+                    [
+                        bank._replace(cash=bank.cash + int(added)) if i == short[at] else bank
+                        for i, bank in enumerate(net.banks)
+                    ]
+                )[1]
                 others = [net.banks[i].name for i in short if after[i] == "sound" and i != short[at]]
                 self.assertEqual((also, still), (f"{len(others)}", f"{BANKS - after.count('sound')}"))
-                self.assertEqual([line for line in second if line.startswith(f"{name},")], [f"{name},{other}" for other in others])
+                self.assertEqual(
+                    [line for line in second if line.startswith(f"{name},")], [f"{name},{other}" for other in others]
+                )
 
     def test_large_claims_by_another_route(self):
         net = large_claims()
@@ -166,14 +208,29 @@ class Largest(Case):
                 self.assertTrue(shown + "\n" == payments)
                 raises = journal.count("\n") - 2
                 self.same(f"lawful,{raises}\n\n{payments}", "replay", "--journal", self.file("journal.csv", journal))
-                told = self.made("clearing-audit", *self.files, "--journal", self.file("journal.csv", journal), "--payments", self.file("payments.csv", payments))
+                told = self.made(
+                    "clearing-audit",
+                    *self.files,
+                    "--journal",
+                    self.file("journal.csv", journal),
+                    "--payments",
+                    self.file("payments.csv", payments),
+                )
                 self.assertIn(f"{raises} raises lawful\nnobody can pay more\npayments same\n", told)
         with self.subTest(task="bounds"):
             bounds = self.text("bounds").partition("\n\n")[0].splitlines()[1:]
             self.assertEqual([int(line.split(",")[4]) for line in bounds], paid)
-            self.assertTrue(all(int(line.split(",")[4]) <= int(line.split(",")[5]) <= int(line.split(",")[3]) for line in bounds))
+            self.assertTrue(
+                all(int(line.split(",")[4]) <= int(line.split(",")[5]) <= int(line.split(",")[3]) for line in bounds)
+            )
         self.same(payments, "costs", "--keep", "1000", cut=lambda text: text.partition("\n\n")[0] + "\n")
-        self.same(self.text("bounds").partition("\n\n")[0], "cost-bounds", "--keep", "1000", cut=lambda text: text.partition("\n\n")[0])
+        self.same(
+            self.text("bounds").partition("\n\n")[0],
+            "cost-bounds",
+            "--keep",
+            "1000",
+            cut=lambda text: text.partition("\n\n")[0],
+        )
         with self.subTest(task="compress"):
             self.assertIsNone(judge_compression(net, self.text("compress")))
         # With the sum that saves a bank it is sound, and with a unit less it lacks what is said.
@@ -181,10 +238,16 @@ class Largest(Case):
         first, second, _, shown = self.text("rescue", "--bank", net.banks[bank].name).split("\n", 3)
         added, lacks = int(first.split(",")[2]), int(second.split(",")[1])
         for units, short in ((added, 0), (added - 1, lacks)):
-            files = ["--banks", self.file("richer.csv", model.banks_text(model.added(net, bank, units), True)), *self.files[2:]]
+            files = [
+                "--banks",
+                self.file("richer.csv", model.banks_text(model.added(net, bank, units), True)),
+                *self.files[2:],
+            ]
             told = self.printed("central", *files)
             given = [int(line.split(",")[4]) for line in told.splitlines()[1:]]
-            self.assertEqual(max(0, model.due(net, bank) - model.estate(model.added(net, bank, units), given, bank)), short)
+            self.assertEqual(
+                max(0, model.due(net, bank) - model.estate(model.added(net, bank, units), given, bank)), short
+            )
             if not short:
                 self.assertTrue(shown == told)
 
@@ -195,7 +258,9 @@ class Largest(Case):
         files = ["--banks", files[0], "--debts", files[1]]
         counts = self.printed("check", *files).partition("\n\n")[0]
         total = self.printed("defaults", *files).splitlines()[-2].split(",")
-        self.assertEqual(self.printed("gen", *words), f"{counts}\npaid,{total[2]}\ndefaults,{total[5]}\nequity,{total[4]}\n")
+        self.assertEqual(
+            self.printed("gen", *words), f"{counts}\npaid,{total[2]}\ndefaults,{total[5]}\nequity,{total[4]}\n"
+        )
 
 
 if __name__ == "__main__":

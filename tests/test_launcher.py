@@ -1,5 +1,5 @@
-"""The script `./clearing` builds what has changed, and nothing else: tried in a small repository with a toolchain of its own making,
-which counts its calls and links a program that prints the sources."""
+"""The script `./clearing` builds what has changed, and nothing else: tried in a small repository with a toolchain of
+its own making, which counts its calls and links a program that prints the sources."""
 import os
 import pathlib
 import shutil
@@ -54,20 +54,32 @@ class Launcher(Case):
                 (self.root / "crates" / name / part).mkdir(parents=True)
             (self.root / "crates" / name / "src/main.rt").write_text(f"fn {name}() {{}}\n")
         (self.root / "crates.txt").write_text(
-            "low:\nleft: low # and no other\nright: low\ntop: left right\nclear_main: top\ntests: low top\n")
+            "low:\nleft: low # and no other\nright: low\ntop: left right\nclear_main: top\ntests: low top\n"
+        )
         shutil.copy(ROOT / "clearing", self.root / "clearing")
         (self.root / "tools/dev").mkdir(parents=True)
         for name in ("build.py", "crates.py"):
             shutil.copy(ROOT / "tools/dev" / name, self.root / "tools/dev")
 
     def run_at(self, root, *words, path=True, **more):
-        environment = {"PATH": (f"{self.folder}/bin:" if path else "") + "/usr/bin:/bin", "CALLS": str(self.calls),
-                       "TIMES": str(self.times), "CLEARING_JOBS": "2", **more}
+        environment = {
+            "PATH": (f"{self.folder}/bin:" if path else "") + "/usr/bin:/bin",
+            "CALLS": str(self.calls),
+            "TIMES": str(self.times),
+            "CLEARING_JOBS": "2",
+            **more,
+        }
         prefix = []
         if os.geteuid() == 0 and more.get("READER"):
             prefix = ["setpriv", "--reuid=65534", "--regid=65534", "--clear-groups"]
-        return subprocess.run([*prefix, str(root / "clearing"), *words], env=environment, cwd=self.folder, stdin=subprocess.DEVNULL,
-                              capture_output=True, encoding="utf-8")
+        return subprocess.run(
+            [*prefix, str(root / "clearing"), *words],
+            env=environment,
+            cwd=self.folder,
+            stdin=subprocess.DEVNULL,
+            capture_output=True,
+            encoding="utf-8",
+        )
 
     def builds(self):
         return self.calls.read_text().count(": run ")
@@ -99,7 +111,10 @@ class Launcher(Case):
         self.assertEqual(self.builds(), 1)
 
     def steps(self):
-        return [line.removesuffix(" -- check --banks data/banks.csv --debts data/debts.csv") for line in self.calls.read_text().splitlines()]
+        return [
+            line.removesuffix(" -- check --banks data/banks.csv --debts data/debts.csv")
+            for line in self.calls.read_text().splitlines()
+        ]
 
     def test_crates_that_do_not_stand_on_each_other_are_proved_side_by_side(self):
         done = self.run_at(self.root, SLOW="2")
@@ -124,7 +139,8 @@ class Launcher(Case):
                 (self.root / "crates" / name / part).mkdir(parents=True)
             (self.root / "crates" / name / "src/main.rt").write_text("")
         (self.root / "crates.txt").write_text(
-            "low:\none:\ntwo:\nthree:\nleft: low\nright: low\ntop: left right one two three\nclear_main: top\n")
+            "low:\none:\ntwo:\nthree:\nleft: low\nright: low\ntop: left right one two three\nclear_main: top\n"
+        )
         self.assertEqual(self.run_at(self.root, CLEARING_JOBS="4", SLOW="2").returncode, 0)
         # Four may be begun: the lowest of the longest way has two jobs, and two others have one each.
         steps = self.steps()
@@ -170,7 +186,9 @@ class Launcher(Case):
         done = self.run_at(self.root, SLOW="2")
         self.assertIn("\nclearing: 2 of 5 crates are proved", done.stderr)
         self.assertIn("\nclearing: 3 of 5 crates are proved", done.stderr)
-        self.assertEqual([line.split()[0] for line in self.times.read_text().splitlines()], ["right", "right", "top", "top"])
+        self.assertEqual(
+            [line.split()[0] for line in self.times.read_text().splitlines()], ["right", "right", "top", "top"]
+        )
 
     def test_a_source_that_changes_is_built(self):
         source = self.built() / "crates/low/src/main.rt"
@@ -190,12 +208,19 @@ class Launcher(Case):
         self.assertEqual(self.builds(), 4)
 
     def test_a_source_that_changes_while_the_sources_are_read_is_seen(self):
-        """By a command that has just read the last of them when another changes, before what was read is written down."""
+        """By a command that has just read the last of them when another changes, before what was read is written
+        down."""
         source = self.built() / "crates/low/src/main.rt"
-        self.file("bin/sha256sum", f"""#!/bin/sh
+        self.file(
+            "bin/sha256sum",
+            f"""#!/bin/sh
 /usr/bin/sha256sum "$@"
-[ $# -lt 2 ] || [ -e "{self.folder}/changed" ] || {{ true >"{self.folder}/changed"; echo "fn low() {{ }}" >"{source}"; }}
-""").chmod(0o755)
+[ $# -lt 2 ] || [ -e "{self.folder}/changed" ] || {{
+    true >"{self.folder}/changed"
+    echo "fn low() {{ }}" >"{source}"
+}}
+""",
+        ).chmod(0o755)
         source.touch()
         self.assertIn("it is not built again", self.run_at(self.root).stderr)
         self.assertTrue((self.folder / "changed").exists())
@@ -268,10 +293,20 @@ class Launcher(Case):
 
     def going(self):
         """A build that goes on for long, in a session of its own."""
-        environment = {"PATH": f"{self.folder}/bin:/usr/bin:/bin", "CALLS": str(self.calls), "TIMES": str(self.times),
-                       "CLEARING_JOBS": "2", "SLOW": "30"}
-        going = subprocess.Popen([str(self.root / "clearing")], env=environment, stderr=subprocess.PIPE, encoding="utf-8",
-                                 start_new_session=True)
+        environment = {
+            "PATH": f"{self.folder}/bin:/usr/bin:/bin",
+            "CALLS": str(self.calls),
+            "TIMES": str(self.times),
+            "CLEARING_JOBS": "2",
+            "SLOW": "30",
+        }
+        going = subprocess.Popen(
+            [str(self.root / "clearing")],
+            env=environment,
+            stderr=subprocess.PIPE,
+            encoding="utf-8",
+            start_new_session=True,
+        )
         deadline = time.monotonic() + 60
         while not self.times.read_text() and time.monotonic() < deadline:
             time.sleep(0.1)

@@ -1,6 +1,6 @@
-"""A large estate is divided soon and in turn: among one large claim and 998 small ones, of 9.9 million units in all, by each
-rule that looks for a level. What is printed is held against the rule itself: no unit that is left out has its turn before one
-that is given."""
+"""A large estate is divided soon and in turn: among one large claim and 998 small ones, of 9.9 million units in all,
+by each rule that looks for a level. What is printed is held against the rule itself: no unit that is left out has its
+turn before one that is given."""
 import fractions
 import resource
 import subprocess
@@ -22,7 +22,8 @@ def limited() -> None:
 
 
 def turn_of(rule: str, claim: int, units: int, place: int) -> tuple[fractions.Fraction, int]:
-    """When a claim has its turn for one unit more than these: the lesser is the earlier, and at a tie the earlier debt."""
+    """When a claim has its turn for one unit more than these: the lesser is the earlier, and at a tie the earlier
+    debt."""
     above, below = {
         "equal": (units, 1),
         "losses": (units - claim, 1),
@@ -38,10 +39,19 @@ class Levels(Case):
         """What a bank with this estate pays on each of the claims, as the program prints it."""
         banks = [f"A,{estate},{rule}", *(f"N{place},0,order" for place in range(999))]
         debts = [f"A,N{place},1,{claim}" for place, claim in enumerate(CLAIMS)]
-        files = ["--banks", self.file("banks.csv", "\n".join(["name,cash,rule", *banks])),
-                 "--debts", self.file("debts.csv", "\n".join(["debtor,creditor,class,claim", *debts]))]
-        done = subprocess.run([PROGRAM, "clear", *files], stdin=subprocess.DEVNULL, capture_output=True, encoding="utf-8",
-                              preexec_fn=limited)
+        files = [
+            "--banks",
+            self.file("banks.csv", "\n".join(["name,cash,rule", *banks])),
+            "--debts",
+            self.file("debts.csv", "\n".join(["debtor,creditor,class,claim", *debts])),
+        ]
+        done = subprocess.run(
+            [PROGRAM, "clear", *files],
+            stdin=subprocess.DEVNULL,
+            capture_output=True,
+            encoding="utf-8",
+            preexec_fn=limited,
+        )
         self.assertEqual((done.returncode, done.stderr), (0, ""))
         return [int(line.rpartition(",")[2]) for line in done.stdout.splitlines()[1:]]
 

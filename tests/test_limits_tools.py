@@ -1,4 +1,4 @@
-"""The limits of networks in the tools: which are taken where nobody says so, what is told of it, and what keeps them."""
+"""The limits of networks in the tools: which are taken where nobody says so, what is told of it, what keeps them."""
 import collections
 import decimal
 import random
@@ -37,8 +37,10 @@ class Tools(Case):
         for name, limits in LIMITS.items():
             own = audit.LIMITS[name]
             self.assertEqual(own[:4], limits[:4])
-            self.assertEqual([own.most_of(file) for file in ("banks", "debts", "journal")],
-                             [limits.bytes[file] for file in ("banks", "debts", "journal")])
+            self.assertEqual(
+                [own.most_of(file) for file in ("banks", "debts", "journal")],
+                [limits.bytes[file] for file in ("banks", "debts", "journal")],
+            )
 
     def test_no_file_of_a_network_and_no_text_on_its_debts_is_too_long_for_the_tools(self):
         name, claim = "n" * 64, MAX_CLAIM
@@ -47,7 +49,9 @@ class Tools(Case):
             amounts = {"check": 1, "clear": 2, "rescue": 2}.get(words, 3)
             debt = len(f"{name},{name},9" + f",{claim}" * amounts + "\n")
             self.assertLess(1_000 + MOST.debts * debt + MOST.banks * bank, files.MOST_BYTES, words)
-            self.assertLess(MOST.debts * debt, parts.most_of("as-is/payments.csv") if amounts == 2 else files.MOST_BYTES)
+            self.assertLess(
+                MOST.debts * debt, parts.most_of("as-is/payments.csv") if amounts == 2 else files.MOST_BYTES
+            )
         self.assertLess(max(MOST.bytes["banks"], MOST.bytes["debts"]), files.MOST_BYTES)
         # A journal, with the payments behind it.
         raised = len(f"{2**32 - 1},{name},{name},9,{claim}\n") * MOST.raises
@@ -67,7 +71,9 @@ class Tools(Case):
         self.assertEqual((done.returncode, done.stdout, done.stderr), (0, "no fault\n", ""))
         done = tool("clearing-lint", *self.files, "--limits", "standard")
         self.assertEqual(done.returncode, 1)
-        self.assertIn("too many (12): the file has 1,001 banks, and the most is 1,000; read it by --limits wide\n", done.stdout)
+        self.assertIn(
+            "too many (12): the file has 1,001 banks, and the most is 1,000; read it by --limits wide\n", done.stdout
+        )
         self.assertEqual(tool("clearing-lint", *self.files, "--limits", "big").returncode, 2)
         for limits in LIMITS:
             most = LIMITS[limits]
@@ -77,16 +83,25 @@ class Tools(Case):
             claims = [10**6] * (most.owed // 10**6)
             for more, kinds in (([], []), ([1], ["total"])):
                 rows = b"".join(b"N%d,N%d,1,%d\n" % (at, at + 1, claim) for at, claim in enumerate([*claims, *more]))
-                self.assertEqual([fault.kind for fault in linter.faults_of(BANKS[: BANKS.index(b"N100,")], DEBTS + rows, limits)], kinds)
+                self.assertEqual(
+                    [fault.kind for fault in linter.faults_of(BANKS[: BANKS.index(b"N100,")], DEBTS + rows, limits)],
+                    kinds,
+                )
 
     def test_the_audit_follows_a_journal_by_the_limits(self):
         banks = BANKS.replace(b"N0,0,", b"N0,7,")
         files = {"banks": banks, "debts": DEBTS + b"N0,N1,1,5\n", "journal": JOURNAL + b"1,N0,N1,1,5\n"}
-        self.assertEqual(audit.judge(files, "wide"), (["1 raises lawful", "nobody can pay more", "payments: none given", "defaults: none given"], 0))
+        self.assertEqual(
+            audit.judge(files, "wide"),
+            (["1 raises lawful", "nobody can pay more", "payments: none given", "defaults: none given"], 0),
+        )
         self.assertEqual(audit.judge(files), (["banks row 1001: too many (12)"], 4))
         names = [word for name, data in files.items() for word in (f"--{name}", self.file(f"{name}.csv", data))]
         done = tool("clearing-audit", *names)
-        what = "the network is read by the wide limits, as it passes the standard ones (banks row 1001: too many (12)); --limits wide says so"
+        what = (
+            "the network is read by the wide limits, as it passes the standard ones (banks row 1001: too many (12));"
+            " --limits wide says so"
+        )
         self.assertEqual((done.returncode, done.stderr), (0, f"audit.py: {what}\n"))
         self.assertEqual(tool("clearing-audit", *names, "--limits", "wide").stderr, "")
         done = tool("clearing-audit", *names, "--limits", "standard")
@@ -102,12 +117,19 @@ class Tools(Case):
 
     def test_a_case_that_was_described_by_wide_limits_is_read_by_them(self):
         net, wide = cc.Network(CHAIN / "banks.csv", CHAIN / "debts.csv"), ["--limits", "wide"]
-        for limits, more, words in (("wide", [], wide), (None, [], []), (None, wide, wide), ("wide", ["--limits", "standard"], [])):
+        for limits, more, words in (
+            ("wide", [], wide),
+            (None, [], []),
+            (None, wide, wide),
+            ("wide", ["--limits", "standard"], []),
+        ):
             cc.Case(net, title="Chain", limits=limits).write(self.folder / "case", replace=True)
             parser = cli.case_parser("A tool.")
             asked = parser.parse_args([str(self.folder / "case"), *more])
             taken = cases.take_case(parser, asked)
-            self.assertEqual((cli.words_of(taken)[2:], taken.case.limits), (words, "wide" if words else "standard"), (limits, more))
+            self.assertEqual(
+                (cli.words_of(taken)[2:], taken.case.limits), (words, "wide" if words else "standard"), (limits, more)
+            )
         # The program gets the words.
         self.program('for word in "$@"; do last=$word; done; [ "$last" = wide ] || exit 9; echo "bank,cut,state"\n')
         self.assertEqual(tool("clearing-breaking", *files_of(CHAIN), *wide).stdout, "bank,cut,state\n")
@@ -116,7 +138,10 @@ class Tools(Case):
 
     @needs_modules("numpy")
     def test_estimates_keep_as_many_claims_as_the_limits_have(self):
-        table = self.file("t.csv", "bank,assets,liabilities,cash\n" + "".join(f"N{n},{1000 + n},{1000 + n},{n % 7}\n" for n in range(143)))
+        table = self.file(
+            "t.csv",
+            "bank,assets,liabilities,cash\n" + "".join(f"N{n},{1000 + n},{1000 + n},{n % 7}\n" for n in range(143)),
+        )
         words = ["clearing-from-totals", table, "--out", self.folder / "made"]
         python = python_with("numpy")
         debts = self.folder / "made/debts.csv"
@@ -160,8 +185,16 @@ class LargeReports(unittest.TestCase):
             for name in names
         ]
         place = {name: at for at, name in enumerate(names)}
-        return types.SimpleNamespace(banks=banks, debts=debts, place=place, called=str, names=fullnames.FullNames(),
-                                     money=money.Money(None, None), cash=dict.fromkeys(names, 9), frames=None)
+        return types.SimpleNamespace(
+            banks=banks,
+            debts=debts,
+            place=place,
+            called=str,
+            names=fullnames.FullNames(),
+            money=money.Money(None, None),
+            cash=dict.fromkeys(names, 9),
+            frames=None,
+        )
 
     def test_of_very_many_banks_a_thousand_have_parts(self):
         for has_unpaid in (True, False):
@@ -191,26 +224,37 @@ class LargeReports(unittest.TestCase):
 
     def test_all_others_together_do_not_hide_the_debtors_by_name(self):
         owed = [Owed(f"N{at}", f"C{at}", 1, 400 - at, 0) for at in range(12)] + [Owed("N0", "C1", 1, 100, 0)]
-        few, many = [Owed(f"M{at}", f"D{at}", 1, 40, 0) for at in range(30)], [Owed(f"M{at}", f"D{at}", 1, 40, 0) for at in range(300)]
+        few, many = [Owed(f"M{at}", f"D{at}", 1, 40, 0) for at in range(30)], [
+            Owed(f"M{at}", f"D{at}", 1, 40, 0) for at in range(300)
+        ]
         for others, most, broken in ((few, 1_200, 0), (many, 400, 1)):
             debts = owed + others
             names = sorted({name for debt in debts for name in (debt.debtor, debt.creditor)})
             owes = {debt.debtor for debt in debts}
             banks = [texts.Bank(name, 0, 0, 0, 0, 500, 0, "fundamental" if name in owes else "sound") for name in names]
             drawn = drawing.drawing_of(texts.flows_of(debts, banks), banks, money.Money(None, None), "matrix")
-            cells = re.findall(r'<g class="flow cell( over)?".*?<title>(.*?)</title><rect class="sq".*? width="([0-9.]+)"', drawn.body)
+            cells = re.findall(
+                r'<g class="flow cell( over)?".*?<title>(.*?)</title><rect class="sq".*? width="([0-9.]+)"', drawn.body
+            )
             self.assertEqual((len(cells), drawn.most), (14, most))
             sides = {title: float(side) for _, title, side in cells}
-            self.assertEqual([title for over, title, _ in cells if over], [
-                "300 others in default to 300 others that stand: 0 of 12,000 paid"] * broken)
+            self.assertEqual(
+                [title for over, title, _ in cells if over],
+                ["300 others in default to 300 others that stand: 0 of 12,000 paid"] * broken,
+            )
             # Areas are amounts up to the largest that has one.
             for title, side in sides.items():
                 unpaid = int(title.split(" of ")[1].split()[0].replace(",", ""))
                 self.assertAlmostEqual(side, 32 * min(1, unpaid / most) ** 0.5, delta=0.06, msg=title)
             words = [words for _, words in drawn.legend]
-            self.assertIn(f"unpaid; area: the amount; the largest is {most:,} units", [said.replace("\u00a0", " ") for said in words])
-            self.assertEqual([said.replace("\u00a0", " ") for said in words if "together" in said], [
-                "unpaid by many together, more than the areas show: up to 12,000 units"] * broken)
+            self.assertIn(
+                f"unpaid; area: the amount; the largest is {most:,} units",
+                [said.replace("\u00a0", " ") for said in words],
+            )
+            self.assertEqual(
+                [said.replace("\u00a0", " ") for said in words if "together" in said],
+                ["unpaid by many together, more than the areas show: up to 12,000 units"] * broken,
+            )
 
     def test_scenarios_are_told_by_two_digits_at_least(self):
         euros = money.Money(decimal.Decimal(1000), "EUR")
@@ -227,8 +271,16 @@ class LargeReports(unittest.TestCase):
 
     def test_a_scenario_is_told_in_units_as_in_a_currency(self):
         for said, sums, told in (
-            (money.Money(), (700, 910), "In the worst of one scenario 910 units stay unpaid, 210 units more than as things are"),
-            (money.Money(None, "EUR"), (700, 910), "In the worst of one scenario EUR 910 stays unpaid, EUR 210 more than as things are"),
+            (
+                money.Money(),
+                (700, 910),
+                "In the worst of one scenario 910 units stay unpaid, 210 units more than as things are",
+            ),
+            (
+                money.Money(None, "EUR"),
+                (700, 910),
+                "In the worst of one scenario EUR 910 stays unpaid, EUR 210 more than as things are",
+            ),
         ):
             cases = [scenarios.Case("S", {"A": total}, {}, [], at) for at, total in enumerate(sums)]
             self.assertEqual(scenarios.title_of(types.SimpleNamespace(money=said, amount=said), cases), told)
@@ -236,7 +288,9 @@ class LargeReports(unittest.TestCase):
     def test_a_page_without_a_journal_has_no_debts_for_it(self):
         matter = self.large(60)
         flows = texts.flows_of(matter.debts, matter.banks)
-        drawn = drawing.drawing_of(flows, matter.banks, matter.money, "matrix", lambda bank: f"bank-{matter.place[bank.name]}")
+        drawn = drawing.drawing_of(
+            flows, matter.banks, matter.money, "matrix", lambda bank: f"bank-{matter.place[bank.name]}"
+        )
         without = player.data_of(matter, drawn)
         self.assertFalse({"debts", "flowOf", "cash", "owed"} & set(without))
         matter.frames = []
@@ -261,8 +315,11 @@ class LargeReports(unittest.TestCase):
 
     def test_half_the_unit_is_tried_by_the_wide_limits_where_the_standard_ones_have_no_room(self):
         asked = []
-        program = types.SimpleNamespace(put=lambda name, data: name, ask=lambda name, *words: asked.append(words),
-                                        result=lambda *_: types.SimpleNamespace(standings=[]))
+        program = types.SimpleNamespace(
+            put=lambda name, data: name,
+            ask=lambda name, *words: asked.append(words),
+            result=lambda *_: types.SimpleNamespace(standings=[]),
+        )
         header = ["debtor", "creditor", "class", "claim"]
         for claims, limits, may, words in (
             (9 * [500_000], "standard", True, []), (18 * [500_000], "standard", True, ["--limits", "wide"]),
@@ -282,7 +339,9 @@ class LargeReports(unittest.TestCase):
         flows = [network.Flow(f"A{n}", f"B{n}", 10, 10 - n % 2) for n in range(20_003)]
         rows = network.rows_of(flows)
         self.assertEqual((len(rows), rows[-1]), (20_001, ("all others", "all others", 30, 30, 0)))
-        self.assertEqual(network.rows_of(flows[:5]), [(f.debtor, f.creditor, f.claim, f.paid, f.claim - f.paid) for f in flows[:5]])
+        self.assertEqual(
+            network.rows_of(flows[:5]), [(f.debtor, f.creditor, f.claim, f.paid, f.claim - f.paid) for f in flows[:5]]
+        )
 
 
 if __name__ == "__main__":

@@ -183,9 +183,10 @@ class Made:
 # Two files that are accepted, for what is made up of scenarios and journals.
 NETWORK = {
     "banks": "name,cash,rule,outside\nA,7,order,0\nB,1,equal,2\nCrédit Loire,5,losses,0\nD 1,0,webster,0\n".encode(),
-    "debts":
+    "debts": (
         "debtor,creditor,class,claim\nA,B,1,10\nB,Crédit Loire,1,9\nB,Crédit Loire,3,9\nCrédit Loire,A,2,1000000\n"
-        "D 1,A,9,0\n".encode(),
+        "D 1,A,9,0\n".encode()
+    ),
 }
 KEYS = ["name", "cut", "loss", "bank", "amount", "scenario", "Name", "cuts", "", "1", "a b"]
 TEXTS = [
@@ -542,33 +543,43 @@ class Lint(Case):
     def test_all_faults_are_named_at_once_with_hints(self):
         banks = self.file(
             "banks.csv",
-            'name,cash,rule\r\n\r\nCrédit,"1,000",Order\r\nB,-7,webster\r\n,,\r\n'
-            "B,7.5,webser\r\nC,1\u00a0000,order,\r\n",
+            (
+                'name,cash,rule\r\n\r\nCrédit,"1,000",Order\r\nB,-7,webster\r\n,,\r\n'
+                "B,7.5,webser\r\nC,1\u00a0000,order,\r\n"
+            ),
         )
         debts = self.file(
             "debts.csv",
-            "debtor,creditor,class,claim\nCre\u0301dit,B,1.0,1E+06\nB,B,1,\n" 'B,C,1,2000000\nB,C,1,5\n"B\nX",C,1,5\n',
+            'debtor,creditor,class,claim\nCre\u0301dit,B,1.0,1E+06\nB,B,1,\nB,C,1,2000000\nB,C,1,5\n"B\nX",C,1,5\n',
         )
         lines = [
-            f"{banks} line 3 (row 1) cash: number (4): '1,000' is not a number; write it without separators between "
-            "thousands",
+            (
+                f"{banks} line 3 (row 1) cash: number (4): '1,000' is not a number; write it without separators between"
+                " thousands"
+            ),
             f"{banks} line 3 (row 1) rule: rule (5): 'Order' is not a rule; write it as order, in small letters",
             f"{banks} line 4 (row 2) cash: number (4): '-7' is not a number; no amount is below 0",
             f"{banks} line 6 (row 4) name: double bank (7): the bank 'B' is also in line 4 (row 2)",
             f"{banks} line 6 (row 4) cash: number (4): '7.5' is not a number; amounts are whole units",
             f"{banks} line 6 (row 4) rule: rule (5): 'webser' is not a rule; is it webster?",
             f"{banks} line 7 (row 5): fields (2): 4 fields in place of 3; delete the commas at the end",
-            f"{debts} line 2 (row 1) debtor: unknown bank (8): no bank has the name 'Cre\u0301dit'; "
-            "the banks file has 'Crédit'; they differ by another Unicode form",
+            (
+                f"{debts} line 2 (row 1) debtor: unknown bank (8): no bank has the name 'Cre\u0301dit'; "
+                "the banks file has 'Crédit'; they differ by another Unicode form"
+            ),
             f"{debts} line 2 (row 1) class: class (10): '1.0' is not a class; write it as 1",
             f"{debts} line 2 (row 1) claim: number (4): '1E+06' is not a number; write it without an exponent",
             f"{debts} line 3 (row 2) creditor: self debt (9): 'B' is its own creditor",
             f"{debts} line 3 (row 2) claim: number (4): '' is not a number; write 0",
             f"{debts} line 4 (row 3) claim: limit (6): 2,000,000 is more than 1,000,000; take a larger unit",
-            f"{debts} line 5 (row 4): double debt (11): a debt of this debtor, creditor and class is also in line 4 "
-            "(row 3)",
-            f"{debts} line 6 (row 5) debtor: name (3): the name 'B\\nX' has the control character U+000A; a name "
-            "stands in one line",
+            (
+                f"{debts} line 5 (row 4): double debt (11): a debt of this debtor, creditor and class is also in line 4"
+                " (row 3)"
+            ),
+            (
+                f"{debts} line 6 (row 5) debtor: name (3): the name 'B\\nX' has the control character U+000A; a name "
+                "stands in one line"
+            ),
             "15 faults",
         ]
         done = self.run_lint(1, banks, debts)
@@ -582,7 +593,10 @@ class Lint(Case):
             ("name;cash;rule\nA;1;order\n", "save the file with commas"),
             ("name\tcash\trule\n", "stand between tabs"),
             *(("name,cash,rule\n".encode(code), "the file is UTF-16") for code in ("utf-16", "utf-16-le", "utf-16-be")),
-            (b"PK\x03\x04\x14\0\6\0\x08\0\0\0!\0", "the file is a workbook; clearing-from-matrix or clearing-from-list reads it"),
+            (
+                b"PK\x03\x04\x14\0\6\0\x08\0\0\0!\0",
+                "the file is a workbook; clearing-from-matrix or clearing-from-list reads it",
+            ),
             (bytes.fromhex("d0cf11e0a1b11ae1") + bytes(90), "the file is a workbook"),
             (b"\x7fELF\2\1\1\0\0\0", "the file is no text"),
             ("Name,Cash,Rule\nA,1,order\nB,1,order\n", "small letters"),
@@ -616,8 +630,10 @@ class Lint(Case):
                     "line 1 (row 1) cut: limit (6): 1,001 is more than 1,000; a cut is per mille: 0 to 1,000",
                     "line 6 (row 2) amount: shape (17): amount is not a whole number, without quotes or a point",
                     "line 6 (row 2) name: name (3): the name 'b,c' has a comma; write the name without it",
-                    "line 6 (row 2) bank: unknown bank (8): no bank has the name 'a'; the banks file has 'A'; they "
-                    "differ by capitals, or other spaces or signs",
+                    (
+                        "line 6 (row 2) bank: unknown bank (8): no bank has the name 'a'; the banks file has 'A'; they "
+                        "differ by capitals, or other spaces or signs"
+                    ),
                     "line 6 (row 2) amount: limit (6): -1 is below 0; write it without a sign",
                     "line 6 (row 2) bank: double bank (7): the bank 'B' has two losses; add them up",
                     "7 faults",
@@ -626,25 +642,31 @@ class Lint(Case):
             (
                 "[[scenario]]\nname = “a”\n",
                 [
-                    'line 2 (row 0): toml (16): it is not TOML: Invalid value (at line 2, column 8); quotes are '
-                    'straight: "',
+                    (
+                        "line 2 (row 0): toml (16): it is not TOML: Invalid value (at line 2, column 8); quotes are "
+                        'straight: "'
+                    ),
                     "1 fault",
                 ],
             ),
             (
                 '[[scenario]]\nname = "a"\ncut = 1,000\n',
                 [
-                    "line 3 (row 0): toml (16): it is not TOML: Expected newline or end of document after a "
-                    "statement (at line 3, column 8)"
-                    "; write the number without separators between thousands",
+                    (
+                        "line 3 (row 0): toml (16): it is not TOML: Expected newline or end of document after a "
+                        "statement (at line 3, column 8)"
+                        "; write the number without separators between thousands"
+                    ),
                     "1 fault",
                 ],
             ),
             (
                 '[scenario]\nname = "a"\n',
                 [
-                    "line 1 (row 0) scenario: shape (17): scenario is no array of tables; write [[scenario]], with "
-                    "two brackets at each end",
+                    (
+                        "line 1 (row 0) scenario: shape (17): scenario is no array of tables; write [[scenario]], with "
+                        "two brackets at each end"
+                    ),
                     "1 fault",
                 ],
             ),
@@ -679,15 +701,23 @@ class Lint(Case):
                 f"{name} {line}"
                 for line in [
                     "line 3 (row 2): unknown debt (15): no debt is of 'A' to 'B' in class 2; there is one in class 1",
-                    "line 4 (row 3): unknown debt (15): no debt is of 'B' to 'A' in class 1; there is one the other "
-                    "way round",
-                    "line 4 (row 3) to: number (4): 'x' is not a number; a number is 1 to 20 digits 0 to 9, and "
-                    "nothing else",
-                    "line 5 (row 4): fields (2): 2 fields in place of 5; the record of rounds is the last; is this "
-                    "two journals in one?",
+                    (
+                        "line 4 (row 3): unknown debt (15): no debt is of 'B' to 'A' in class 1; there is one the other"
+                        " way round"
+                    ),
+                    (
+                        "line 4 (row 3) to: number (4): 'x' is not a number; a number is 1 to 20 digits 0 to 9, and "
+                        "nothing else"
+                    ),
+                    (
+                        "line 5 (row 4): fields (2): 2 fields in place of 5; the record of rounds is the last; is this "
+                        "two journals in one?"
+                    ),
                     "line 6 (row 5) stamp: limit (6): 4,294,967,296 is more than 4,294,967,295",
-                    "line 6 (row 5) debtor: unknown bank (8): no bank has the name 'a'; the banks file has 'A'; they "
-                    "differ by capitals, or other spaces or signs",
+                    (
+                        "line 6 (row 5) debtor: unknown bank (8): no bank has the name 'a'; the banks file has 'A';"
+                        " they differ by capitals, or other spaces or signs"
+                    ),
                     "line 6 (row 5) to: limit (6): 1,000,001 is more than 1,000,000; take a larger unit of account",
                 ]
             ]

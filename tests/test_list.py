@@ -272,17 +272,25 @@ class List(Case):
         self.assertIn("debts that it owes, left out by --leave-out S: 1; 3 in all\n", told)
         self.check("name,cash,rule\nA,3,webster\nB,4,webster\nC,5,webster\n", "debtor,creditor,class,claim\nA,B,1,1\n")
         self.banks.unlink(), self.debts.unlink()
-        self.refuse(
-            "S is a row of totals", "debtor,creditor,amount\nA,B,1\n", table="bank,cash\nA,3\nB,4\nC,5\nS,12\n"
-        )
+        self.refuse("S is a row of totals", "debtor,creditor,amount\nA,B,1\n", table="bank,cash\nA,3\nB,4\nC,5\nS,12\n")
 
     def test_fields_of_several_lines_are_read_in_their_rows(self):
         """Also behind records of one line: a name with a line end is one, and lines of their own are refused."""
         table = 'bank,cash\nA,3\n"B\r\nb",4\nC,5\n'
-        self.take('debtor,creditor,amount,note\nA,C,1,\nA,"B\r\nb",2,\nC,A,3,"a\nb"\n', f"--label={self.folder}/l.csv", table=table)
-        self.check("name,cash,rule\nA,3,webster\nB b,4,webster\nC,5,webster\n", "debtor,creditor,class,claim\nA,C,1,1\nA,B b,1,2\nC,A,1,3\n")
+        self.take(
+            'debtor,creditor,amount,note\nA,C,1,\nA,"B\r\nb",2,\nC,A,3,"a\nb"\n',
+            f"--label={self.folder}/l.csv",
+            table=table,
+        )
+        self.check(
+            "name,cash,rule\nA,3,webster\nB b,4,webster\nC,5,webster\n",
+            "debtor,creditor,class,claim\nA,C,1,1\nA,B b,1,2\nC,A,1,3\n",
+        )
         self.banks.unlink(), self.debts.unlink()
-        self.refuse("row 3: a quoted field holds a line as wide as the header", 'debtor,creditor,amount\nA,C,1\nA,"C,1\nC,A,3\nC",4\n')
+        self.refuse(
+            "row 3: a quoted field holds a line as wide as the header",
+            'debtor,creditor,amount\nA,C,1\nA,"C,1\nC,A,3\nC",4\n',
+        )
 
     def test_a_long_list_takes_as_long_as_its_lines(self):
         """Without a search for objects that refer to one another, which takes the longer the more there are; and the
@@ -292,7 +300,13 @@ class List(Case):
         from clearing_tools.imports import exposure_list as tool
 
         lines = "".join(f"A,B,{at}\n" for at in range(30_000))
-        words = [*map(str, self.words("debtor,creditor,amount\n" + lines)), "--sum", "--duplicates=sum", "--unit=1000", "--round"]
+        words = [
+            *map(str, self.words("debtor,creditor,amount\n" + lines)),
+            "--sum",
+            "--duplicates=sum",
+            "--unit=1000",
+            "--round",
+        ]
         searches = []
         gc.callbacks.append(lambda phase, info: searches.append(info["generation"]) if phase == "start" else None)
         self.addCleanup(gc.callbacks.pop)
@@ -334,7 +348,13 @@ class List(Case):
         example = ROOT / "examples/twelve-banks"
         rows = [line.split(",") for line in (example / "banks.csv").read_text(encoding="utf-8").splitlines()]
         self.told(
-            "clearing-from-list", example / "debts.csv", "--amount", "claim", "--table", example / "banks.csv", *self.files
+            "clearing-from-list",
+            example / "debts.csv",
+            "--amount",
+            "claim",
+            "--table",
+            example / "banks.csv",
+            *self.files,
         )
         self.assertEqual(self.debts.read_text(), (example / "debts.csv").read_text(encoding="utf-8"))
         self.assertEqual([line.split(",") for line in self.banks.read_text().splitlines()], rows)
@@ -464,9 +484,11 @@ class Lines(List):
         groups = self.file("groups.csv", "bank,group\nA,AB Holding\nB,AB Holding\nX,Other\n")
         told = self.take(text, "--groups", groups, table=table)
         self.assertIn(
-            "banks of groups that are not here: 1; X\ngroups: 1; of 2 banks\n"
-            "debts within groups, left out: 1; 10 in all\n"
-            "debts summed by groups: 2; into 1\n",
+            (
+                "banks of groups that are not here: 1; X\ngroups: 1; of 2 banks\n"
+                "debts within groups, left out: 1; 10 in all\n"
+                "debts summed by groups: 2; into 1\n"
+            ),
             told,
         )
         self.check(
@@ -529,8 +551,10 @@ class Lines(List):
     def test_a_wrong_line_of_totals_is_refused_with_both_numbers(self):
         text = "debtor,creditor,amount\nA,B,10\nA,C,2\nC,A,7\nA,Total,13\n,,19\n"
         self.refuse(
-            "list.csv row 5 column amount: the line of totals says 13, and the others come to 12: correct the sheet, "
-            "or delete the line of totals\n",
+            (
+                "list.csv row 5 column amount: the line of totals says 13, and the others come to 12: correct the"
+                " sheet, or delete the line of totals\n"
+            ),
             text,
             "--drop",
             "Total",
@@ -557,8 +581,10 @@ class Lines(List):
         text = f'debtor,creditor,amount\n"Ash, Inc.",B,10\nB,{long.strip()},5\n'
         table = f'bank,cash\n"Ash, Inc.",1\nB,2\n{long.strip()},3\n"Ash  Inc.",4\nAsh Inc.,5\n'
         self.refuse(
-            "row 2: 'Ash, Inc.' is not a name: 1 to 64 bytes, no comma, quote or control character; with --label "
-            "FILE it gets a code",
+            (
+                "row 2: 'Ash, Inc.' is not a name: 1 to 64 bytes, no comma, quote or control character; with --label "
+                "FILE it gets a code"
+            ),
             text,
             table=table,
         )
@@ -567,8 +593,10 @@ class Lines(List):
         short = "Bank of the very long name of the very long name of the very"
         self.assertIn(f"codes in place of names: 2; Ash Inc. 2 for Ash, Inc., {short} for {long.strip()}\n", told)
         self.check(
-            f"name,cash,rule\nAsh Inc. 2,1,webster\nB,2,webster\n{short},3,webster\nAsh  Inc.,4,webster\n"
-            "Ash Inc.,5,webster\n",
+            (
+                f"name,cash,rule\nAsh Inc. 2,1,webster\nB,2,webster\n{short},3,webster\nAsh  Inc.,4,webster\n"
+                "Ash Inc.,5,webster\n"
+            ),
             f"debtor,creditor,class,claim\nAsh Inc. 2,B,1,10\nB,{short},1,5\n",
         )
         self.assertEqual(labels.read_text(), f'code,name\nAsh Inc. 2,"Ash, Inc."\n{short},{long.strip()}\n')
@@ -586,8 +614,11 @@ class Lines(List):
     def test_equal_faults_are_told_once_with_their_first_places(self):
         text = "debtor,creditor,amount\n" + "A,B,NULL\n" + "\n" + "A,C,NULL\nB,A,NULL\nC,A,NULL\nC,B,NULL\n"
         self.refuse(
-            f"clearing-from-list: {self.folder}/list.csv row 2 column amount, row 4 column amount, row 5 column amount and 2 "
-            "more, 5 in all: 'NULL' is not an amount; say --empty 0 to read it as 0, or --leave-out empty\n",
+            (
+                f"clearing-from-list: {self.folder}/list.csv row 2 column amount, row 4 column amount, row 5 column"
+                " amount and 2 more, 5 in all: 'NULL' is not an amount; say --empty 0 to read it as 0, or --leave-out"
+                " empty\n"
+            ),
             text,
         )
 

@@ -29,7 +29,9 @@ class Man(Case):
     @needs("mandoc")
     def test_pages_are_in_form(self):
         for page in [*self.pages(), ROOT / "docs/clearing.1"]:
-            done = subprocess.run(["mandoc", "-T", "lint", "-W", "warning", str(page)], capture_output=True, encoding="utf-8")
+            done = subprocess.run(
+                ["mandoc", "-T", "lint", "-W", "warning", str(page)], capture_output=True, encoding="utf-8"
+            )
             wrong = [line for line in done.stdout.splitlines() if "missing date" not in line]
             self.assertEqual(wrong, [], page.name)
 
@@ -46,8 +48,13 @@ class Man(Case):
 
     def shown(self, page):
         """What `man` shows of a page at 80 columns."""
-        done = subprocess.run(["man", "--warnings", "-l", str(page)], stdin=subprocess.DEVNULL, capture_output=True, encoding="utf-8",
-                              env={**os.environ, "MANWIDTH": "80", "LC_ALL": "C.UTF-8"})
+        done = subprocess.run(
+            ["man", "--warnings", "-l", str(page)],
+            stdin=subprocess.DEVNULL,
+            capture_output=True,
+            encoding="utf-8",
+            env={**os.environ, "MANWIDTH": "80", "LC_ALL": "C.UTF-8"},
+        )
         self.assertEqual((done.returncode, done.stderr), (0, ""), page.name)
         return done.stdout
 
@@ -72,10 +79,25 @@ class Man(Case):
         for status, message in statuses + [("8", "")]:
             self.assertIn(f".TP\n.B {status}\n", page)
             self.assertIn(message, page)
-        tasks = re.findall(r"^\| `([a-z-]+)` \| ", formats.partition("| task | what it does |")[2].partition("\n\n")[0], re.MULTILINE)
+        tasks = re.findall(
+            r"^\| `([a-z-]+)` \| ", formats.partition("| task | what it does |")[2].partition("\n\n")[0], re.MULTILINE
+        )
         options = set(re.findall(r"`(--[a-z]+)`", formats)) - {"--help", "--version"}
         self.assertEqual((len(tasks), len(options)), (17, 13))
-        for word in [*(f".B {task}\n" for task in tasks), *options, *(f"[[{table}]]" for table in ("scenario", "scenario.loss")),
-                     *(f".TP\n.B {key}\n" for key in ("name", "cut", "loss")), ".B bank\n(a name", ".B amount\n(0", "/dev/stdin", "| head -4",
-                     "order", "equal", "losses", "jefferson", "webster", "adams"]:
+        for word in [
+            *(f".B {task}\n" for task in tasks),
+            *options,
+            *(f"[[{table}]]" for table in ("scenario", "scenario.loss")),
+            *(f".TP\n.B {key}\n" for key in ("name", "cut", "loss")),
+            ".B bank\n(a name",
+            ".B amount\n(0",
+            "/dev/stdin",
+            "| head -4",
+            "order",
+            "equal",
+            "losses",
+            "jefferson",
+            "webster",
+            "adams",
+        ]:
             self.assertIn(word, page)

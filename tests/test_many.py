@@ -49,9 +49,11 @@ class Many(Case):
         clearing_client.Case(clearing_client.Network({"A": 7}, {}), scenarios=scenarios).write(place)
         jobs = self.file(
             "jobs.tsv",
-            "a\tdefaults\t--case\ta case\t--workers\t1\nb\tstress\t--case=a case\n"
-            "c\tstress\t--scenarios\tmine.toml\t--banks=b.csv\t--case=a case\nd\t--case\ta case\tstress\n"
-            "e\t--workers\t1\t--case=a case\t--sweeps=2\toutcomes\n",
+            (
+                "a\tdefaults\t--case\ta case\t--workers\t1\nb\tstress\t--case=a case\n"
+                "c\tstress\t--scenarios\tmine.toml\t--banks=b.csv\t--case=a case\nd\t--case\ta case\tstress\n"
+                "e\t--workers\t1\t--case=a case\t--sweeps=2\toutcomes\n"
+            ),
         )
         done = self.many("run", jobs, "out", 1)
         self.assertEqual((done.returncode, done.stdout, done.stderr), (0, "5 done, 0 failed\n", ""))
@@ -74,23 +76,33 @@ class Many(Case):
         self.assertEqual((done.stdout, done.stderr, self.runs()), ("5 done, 0 failed\n", 5 * told, 9))
 
     def test_a_case_is_read_as_all_other_tools_read_it(self):
-        """Descriptions as others write them: what is told of a case, and where it is refused, is what `clearing-case` tells."""
+        """Descriptions as others write them: what is told of a case, and where it is refused, is what `clearing-case`
+        tells."""
         files = {name: (CHAIN / f"{name}.csv").read_bytes() for name in ("banks", "debts")}
         digests = {name: hashlib.sha256(data).hexdigest() for name, data in files.items()}
         plain = [{"name": name, "path": f"{name}.csv"} for name in files]
         hashed = [{**one, "hash": f"sha256:{digests[one['name']]}"} for one in plain]
         swapped = [{**one, "hash": two["hash"]} for one, two in zip(plain, hashed[::-1])]
-        large = {"banks": b"name,cash,rule\n" + b"".join(b"N%d,1,order\n" % n for n in range(1001)), "debts": b"debtor,creditor,class,claim\n"}
+        large = {
+            "banks": b"name,cash,rule\n" + b"".join(b"N%d,1,order\n" % n for n in range(1001)),
+            "debts": b"debtor,creditor,class,claim\n",
+        }
         documents = {
             "without checksums": (files, {"name": "a", "resources": plain}),
             "with them": (files, {"name": "a", "resources": hashed}),
             "with others": (files, {"name": "a", "resources": swapped}),
-            "with another that is not there": (files, {"name": "a", "resources": [*hashed, {"name": "c", "path": "c.csv"}]}),
+            "with another that is not there": (
+                files,
+                {"name": "a", "resources": [*hashed, {"name": "c", "path": "c.csv"}]},
+            ),
             "with unknown keys": (files, {"name": "a", "resources": hashed, "clearing": {"colour": "red"}}),
             "with limits in a text": (files, {"name": "a", "resources": plain, "title": '"limits": "wide"'}),
             "with limits by codes": (files, {"name": "a", "resources": plain, "clearing": {"limits": "wi\\u0064e"}}),
             "large": (large, {"name": "a", "resources": plain}),
-            "large, and it was standard": (large, {"name": "a", "resources": plain, "clearing": {"limits": "standard"}}),
+            "large, and it was standard": (
+                large,
+                {"name": "a", "resources": plain, "clearing": {"limits": "standard"}},
+            ),
             "large, and wide": (large, {"name": "a", "resources": plain, "clearing": {"limits": "wide"}}),
             "with a fault": (files, {"name": "a", "resources": plain, "clearing": {"limits": "wider"}}),
             "with a path outside": (files, {"name": "a", "resources": [{"name": "a", "path": "../a.csv"}]}),
@@ -120,10 +132,26 @@ class Many(Case):
                     continue
                 widely = "the network is read by the wide limits"
                 self.assertEqual("--limits=wide" in out.read_text(), "large" in about or "by codes" in about)
-                self.assertEqual([line.partition("; ")[0].partition(f"job-{at}: ")[2] for line in told if line.startswith(f"clearing-many: job-{at}:")],
-                                 [line.partition("; ")[0].partition(": ")[2] for line in others.stderr.splitlines() if widely in line])
-                self.assertEqual([line for line in told if line.startswith((f"case: {place}:", f"case: {place}/"))],
-                                 [line.replace("case: ", f"case: {place}: ") for line in others.stderr.splitlines() if line.startswith("case: ")])
+                self.assertEqual(
+                    [
+                        line.partition("; ")[0].partition(f"job-{at}: ")[2]
+                        for line in told
+                        if line.startswith(f"clearing-many: job-{at}:")
+                    ],
+                    [
+                        line.partition("; ")[0].partition(": ")[2]
+                        for line in others.stderr.splitlines()
+                        if widely in line
+                    ],
+                )
+                self.assertEqual(
+                    [line for line in told if line.startswith((f"case: {place}:", f"case: {place}/"))],
+                    [
+                        line.replace("case: ", f"case: {place}: ")
+                        for line in others.stderr.splitlines()
+                        if line.startswith("case: ")
+                    ],
+                )
         self.assertEqual(done.stdout, f"{len(lines) - 5} done, 5 failed\n")
 
     def test_as_many_jobs_are_run_at_a_time_as_processors_may_be_used(self):

@@ -32,7 +32,9 @@ class Matrix(Case):
                 self.refused(
                     "clearing-from-matrix", 2, told, sheet, "--cash", "ea", "--outside", "el", "--unit", "0.5", *named
                 )
-            self.refused("clearing-from-list", 2, told, sheet, "--table", sheet, "--banks", self.banks, "--debts", other)
+            self.refused(
+                "clearing-from-list", 2, told, sheet, "--table", sheet, "--banks", self.banks, "--debts", other
+            )
             self.refused("clearing-from-totals", 2, told, sheet, "--out", other)
             self.refused("clearing-from-matrix", 2, told, sheet, *self.files, "--label", other)
             self.assertFalse(other.exists() or self.banks.exists() or self.debts.exists())
@@ -49,13 +51,25 @@ class Matrix(Case):
         matrix = self.file("m.csv", "\ufefflender;Y;X\r\nX;7;0\r\nY;0;2\r\n")
         table = self.file("t.csv", "bank;equity;cash;rule\r\nY;1;5;order\r\nX;1;0;adams\r\n")
         self.told(
-            "clearing-from-matrix", matrix, "--table", table, "--columns-owe", "--delimiter", ";", "--class", 2, *self.files
+            "clearing-from-matrix",
+            matrix,
+            "--table",
+            table,
+            "--columns-owe",
+            "--delimiter",
+            ";",
+            "--class",
+            2,
+            *self.files,
         )
         self.check("name,cash,rule\nX,0,adams\nY,5,order\n", "debtor,creditor,class,claim\nX,Y,2,2\nY,X,2,7\n")
 
     def test_round_goes_to_the_nearest_unit(self):
         self.told(
-            "clearing-from-matrix", self.file("m.csv", ",A,B,cash\nA,0,2.5,1.51\nB,0.49,0,3.5\n"), "--round", *self.files
+            "clearing-from-matrix",
+            self.file("m.csv", ",A,B,cash\nA,0,2.5,1.51\nB,0.49,0,3.5\n"),
+            "--round",
+            *self.files,
         )
         self.check("name,cash,rule\nA,2,webster\nB,4,webster\n", "debtor,creditor,class,claim\nA,B,1,2\n")
 
@@ -74,8 +88,10 @@ class Matrix(Case):
         for told in [
             "m.csv: the claim of A on B is 2,000,000, in units 2,000,000: 1,000,000 more than the most, 1,000,000",
             "m.csv: the claim of B on A is 1,000,003, in units 1,000,003: 3 more than the most, 1,000,000",
-            "m.csv: the cash of B is 1,000,000,000,002, in units 1,000,000,000,002: 2 more than the most, "
-            "1,000,000,000,000",
+            (
+                "m.csv: the cash of B is 1,000,000,000,002, in units 1,000,000,000,002: 2 more than the most, "
+                "1,000,000,000,000"
+            ),
             "m.csv: a unit of 2 keeps all limits on amounts (--unit 2 --round, or --unit auto)",
         ]:
             self.refused("clearing-from-matrix", 1, told, matrix, *self.files)
@@ -139,9 +155,8 @@ class Matrix(Case):
                     1,
                     "",
                     "".join(
-                        f"clearing-from-matrix: {name} row 1 column {column}: its name is {column.lower()} but for capitals "
-                        "or spaces; "
-                        f"say --{option} {column}, or rename it\n"
+                        f"clearing-from-matrix: {name} row 1 column {column}: its name is {column.lower()} but for"
+                        f" capitals or spaces; say --{option} {column}, or rename it\n"
                         for column, option in [("Outside", "outside"), ("RULE", "rule-column")]
                     ),
                 ),
@@ -152,13 +167,17 @@ class Matrix(Case):
             )
 
     def test_a_bank_may_have_such_a_name(self):
-        self.told("clearing-from-matrix", self.file("m.csv", ",Outside,Rule,cash\nOutside,0,6,3\nRule,2,0,4\n"), *self.files)
+        self.told(
+            "clearing-from-matrix", self.file("m.csv", ",Outside,Rule,cash\nOutside,0,6,3\nRule,2,0,4\n"), *self.files
+        )
         self.check(
             "name,cash,rule\nOutside,3,webster\nRule,4,webster\n",
             "debtor,creditor,class,claim\nOutside,Rule,1,6\nRule,Outside,1,2\n",
         )
         told = "row 3: rule names a bank and a column that is none; use --table, or rename the column"
-        self.refused("clearing-from-matrix", 1, told, self.file("m.csv", ",A,rule,cash\nA,0,6,3\nrule,2,0,4\n"), *self.files)
+        self.refused(
+            "clearing-from-matrix", 1, told, self.file("m.csv", ",A,rule,cash\nA,0,6,3\nrule,2,0,4\n"), *self.files
+        )
 
     def test_a_sign_that_could_be_either_is_asked_for(self):
         text = ";A;B;cash\nA;-;30.445;808\nB;;0;1.000\n"
@@ -399,7 +418,8 @@ class Matrix(Case):
                 "debtor,creditor,class,claim\nA,B,1,6\nB,A,1,2\n",
             )
             self.assertIn(
-                "columns not looked at: 1; deposits\n", self.told("clearing-from-matrix", *sheet, "--no-outside", *self.files)
+                "columns not looked at: 1; deposits\n",
+                self.told("clearing-from-matrix", *sheet, "--no-outside", *self.files),
             )
             self.check("name,cash,rule\nA,3,webster\nB,4,webster\n", "debtor,creditor,class,claim\nA,B,1,6\nB,A,1,2\n")
             self.banks.unlink(), self.debts.unlink()
@@ -415,7 +435,11 @@ class Matrix(Case):
         # With cash of its own in a table it is a bank.
         table = self.file("t.csv", ",cash\nA,7\nB,1\nC,1\n")
         self.told(
-            "clearing-from-matrix", self.file("n.csv", ",A,B,C\nA,0,5,3\nB,0,0,3\nC,0,5,0\n"), "--table", table, *self.files
+            "clearing-from-matrix",
+            self.file("n.csv", ",A,B,C\nA,0,5,3\nB,0,0,3\nC,0,5,0\n"),
+            "--table",
+            table,
+            *self.files,
         )
 
     def test_the_input_stays_and_both_files_are_written_or_none(self):
@@ -457,9 +481,11 @@ class Matrix(Case):
         words = ["--banks", banks, "--debts", debts]
         self.assertEqual(
             self.made("clearing-to-matrix", *words, "--unit", "1000000000000000.000000000000001"),
-            ",A,B,cash,rule\nA,0.000000000000000,7000000000000000.000000000000007,7000000000000000.000000000000007,"
-            "order\n"
-            "B,0.000000000000000,0.000000000000000,0.000000000000000,order\n",
+            (
+                ",A,B,cash,rule\nA,0.000000000000000,7000000000000000.000000000000007,7000000000000000.000000000000007,"
+                "order\n"
+                "B,0.000000000000000,0.000000000000000,0.000000000000000,order\n"
+            ),
         )
         for unit, status in (("1." + "1" * 120, 1), ("0", 2), ("inf", 2), ("", 2)):
             self.refused(
@@ -507,7 +533,9 @@ class Matrix(Case):
         ]:
             sheet = self.file("m.csv", text)
             self.assertIn(
-                f"in units of {unit}: ", self.told("clearing-from-matrix", sheet, "--unit", "auto", *self.files), text[:60]
+                f"in units of {unit}: ",
+                self.told("clearing-from-matrix", sheet, "--unit", "auto", *self.files),
+                text[:60],
             )
             self.printed("check", *self.files)
             words = ["--unit", smaller, "--round", "--limits", "standard", *self.files]
@@ -528,8 +556,10 @@ class Matrix(Case):
         sheet = self.file("m.csv", ",A,B,cash\nA,0,2.5,1.5\nB,0.4,0,3.5\n")
         told = self.told("clearing-from-matrix", sheet, "--round", *self.files)
         self.assertIn(
-            "amounts rounded: 4; by 1.9 together, the largest by 0.5\n"
-            "debts that became 0: 1; 0.4 in all; B owes A 0.4\n",
+            (
+                "amounts rounded: 4; by 1.9 together, the largest by 0.5\n"
+                "debts that became 0: 1; 0.4 in all; B owes A 0.4\n"
+            ),
             told,
         )
         done = tool("clearing-from-matrix", sheet, "--round", "--banks", "/dev/stdout", "--debts", self.debts)
@@ -559,7 +589,9 @@ class Matrix(Case):
         )
         # Where nothing is said they are made, and it is told that the wide limits read them.
         told = self.told("clearing-from-matrix", self.file("m.csv", text), "--unit", "auto", *self.files)
-        self.assertIn("limits: wide, as the standard ones have at most 1,000 banks, 20,000 debts and 10,000,000 units", told)
+        self.assertIn(
+            "limits: wide, as the standard ones have at most 1,000 banks, 20,000 debts and 10,000,000 units", told
+        )
         self.assertEqual(self.debts.read_bytes().count(b"\n"), 22_351)
 
     def test_sheets_are_read_as_they_are_saved(self):
@@ -623,8 +655,10 @@ class Matrix(Case):
         first = self.made("clearing-to-matrix", *self.files, "--unit", "0.5")
         self.assertEqual(
             first,
-            ",A,B,C,cash,outside,rule\nA,0.0,6.0,4.0,3.0,0.0,webster\n"
-            "B,2.0,0.0,8.5,1.0,2.0,webster\nC,3.0,1.0,0.0,4.0,0.5,webster\n",
+            (
+                ",A,B,C,cash,outside,rule\nA,0.0,6.0,4.0,3.0,0.0,webster\n"
+                "B,2.0,0.0,8.5,1.0,2.0,webster\nC,3.0,1.0,0.0,4.0,0.5,webster\n"
+            ),
         )
         self.told("clearing-from-matrix", self.file("back.csv", first), "--unit", "0.5", *self.files)
         self.assertEqual(self.made("clearing-to-matrix", *self.files, "--unit", "0.5"), first)
@@ -632,13 +666,16 @@ class Matrix(Case):
     def test_classes_are_summed_or_one_is_taken(self):
         self.banks.write_text("name,cash,rule\nA,9,order\nB,0,order\n")
         self.debts.write_text("debtor,creditor,class,claim\nA,B,1,5\nA,B,3,7\n")
-        self.assertEqual(self.made("clearing-to-matrix", *self.files), ",A,B,cash,rule\nA,0,12,9,order\nB,0,0,0,order\n")
+        self.assertEqual(
+            self.made("clearing-to-matrix", *self.files), ",A,B,cash,rule\nA,0,12,9,order\nB,0,0,0,order\n"
+        )
         self.assertEqual(
             self.made("clearing-to-matrix", *self.files, "--class", 3), ",A,B,cash,rule\nA,0,7,9,order\nB,0,0,0,order\n"
         )
         paid = self.file("paid.csv", self.printed("clear", *self.files, "--show", "both"))
         self.assertEqual(
-            self.made("clearing-to-matrix", *self.files, "--payments", paid), ",A,B,cash,rule\nA,0,9,9,order\nB,0,0,0,order\n"
+            self.made("clearing-to-matrix", *self.files, "--payments", paid),
+            ",A,B,cash,rule\nA,0,9,9,order\nB,0,0,0,order\n",
         )
 
     def test_payments_of_twelve_banks_come_to_what_defaults_says(self):
@@ -666,7 +703,9 @@ class Matrix(Case):
                 claim = draw.randrange(1, 900) if other != at else 0
                 row[other], cents = f"{claim / 100:.2f}", cents + claim
             lines.append(f"{name}," + ",".join(row) + f",{draw.randrange(1000)}")
-        told = self.told("clearing-from-matrix", self.file("m.csv", "\n".join(lines) + "\n"), "--unit", "0.01", *self.files)
+        told = self.told(
+            "clearing-from-matrix", self.file("m.csv", "\n".join(lines) + "\n"), "--unit", "0.01", *self.files
+        )
         self.assertIn(f"in units of 0.01: {cents:,}\n", told)
         self.assertEqual(sum(int(line.rpartition(",")[2]) for line in self.debts.read_text().splitlines()[1:]), cents)
 
@@ -683,5 +722,7 @@ class Matrix(Case):
         paid = self.file("paid.csv", self.printed("clear", *self.files))
         for name in (self.banks, self.debts, paid):
             before = name.read_bytes()
-            self.refused("clearing-to-matrix", 1, f"{name} is also read", *self.files, "--payments", paid, "--out", name)
+            self.refused(
+                "clearing-to-matrix", 1, f"{name} is also read", *self.files, "--payments", paid, "--out", name
+            )
             self.assertEqual(name.read_bytes(), before)

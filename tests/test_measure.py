@@ -1,4 +1,5 @@
-"""bench/measure.py prints each table as ratios, and measures no run that ends otherwise than it has to. Times themselves are not tested."""
+"""bench/measure.py prints each table as ratios, and measures no run that ends otherwise than it has to. Times
+themselves are not tested."""
 import argparse
 import contextlib
 import functools
@@ -49,9 +50,19 @@ def cells(line):
 
 class Measure(Case):
     def run_of(self, *words, program=None, **more):
-        environment = {**os.environ, "CLEARING": program or os.path.realpath(PROGRAM), "TMPDIR": str(self.folder), **more}
-        done = subprocess.run([str(ROOT / "bench/measure.py"), "--runs", "1", *words], env=environment, stdin=subprocess.DEVNULL,
-                              capture_output=True, encoding="utf-8")
+        environment = {
+            **os.environ,
+            "CLEARING": program or os.path.realpath(PROGRAM),
+            "TMPDIR": str(self.folder),
+            **more,
+        }
+        done = subprocess.run(
+            [str(ROOT / "bench/measure.py"), "--runs", "1", *words],
+            env=environment,
+            stdin=subprocess.DEVNULL,
+            capture_output=True,
+            encoding="utf-8",
+        )
         return done.returncode, done.stdout.splitlines(), done.stderr
 
     def odd(self, words, other):
@@ -75,8 +86,16 @@ class Measure(Case):
         further = ["breaking", "impact", "rescues", "outcomes", "cost-bounds"]
         for words, first, second in (
             (["tasks", "chain", "linked-1"], ["clear, ms", *ratios], ["clear, ms", *further]),
-            (["tasks", "--beside", "check", "chain", "linked-1"], ["check, ms", "clear", *ratios[1:]], ["check, ms", "clear", *further]),
-            (["tasks", "--beside", "impact", "chain", "linked-1"], ["impact, ms", "clear", *ratios], ["impact, ms", "clear", "breaking", *further[2:]]),
+            (
+                ["tasks", "--beside", "check", "chain", "linked-1"],
+                ["check, ms", "clear", *ratios[1:]],
+                ["check, ms", "clear", *further],
+            ),
+            (
+                ["tasks", "--beside", "impact", "chain", "linked-1"],
+                ["impact, ms", "clear", *ratios],
+                ["impact, ms", "clear", "breaking", *further[2:]],
+            ),
         ):
             with self.subTest(words=words):
                 status, lines, told = self.run_of(*words)
@@ -85,20 +104,54 @@ class Measure(Case):
                 self.table(lines[3:], "and these", second, ["chain", "linked-1"])
                 self.assertLessEqual(max(map(len, lines)), 136 if "impact" in words else 132)
         for words, title, heads, labels in (
-            (["rules", "star"], "by each rule", ["order, ms", "equal", "losses", "jefferson", "webster", "adams"],
-             ["star, clear", "star, central"]),
+            (
+                ["rules", "star"],
+                "by each rule",
+                ["order, ms", "equal", "losses", "jefferson", "webster", "adams"],
+                ["star, clear", "star, central"],
+            ),
             (["workers", "chain"], "clear, by workers", ["central, ms", "1", "2", "4"], ["chain"]),
             (["rounds", "ordinary"], "clear by one worker", ["reading, ms", "one round", "all rounds"], ["ordinary"]),
-            (["rounds", "unit", "fall"], "a unit a round", ["alone, ms", "at rest"],
-             ["100,000 rounds of clear", "9,000,000 rounds of bounds"]),
-            (["units", "beside-leak"], "a unit to and fro",
-             ["with cash, ms", "clear", "impact", "rescues", "breaking", "MB, clear", "MB, impact", "MB, rescues", "MB, breaking"],
-             ["beside-leak"]),
-            (["reading", "--other", PROGRAM, "chain", "full-commas"], "bytes read or printed",
-             ["wc, ms", "cat", "program", "other", "MB, program", "MB, other"], ["chain", "full-commas"]),
-            (["reading", "journal"], "bytes read or printed", ["wc, ms", "cat", "program", "MB, program"],
-             ["a journal, its payments printed", "a journal printed", "a journal replayed"]),
-            (["others", "ordinary"], "the payments", ["clearing, ms", "fictitious", "iteration", "graph", "far, units"], ["ordinary"]),
+            (
+                ["rounds", "unit", "fall"],
+                "a unit a round",
+                ["alone, ms", "at rest"],
+                ["100,000 rounds of clear", "9,000,000 rounds of bounds"],
+            ),
+            (
+                ["units", "beside-leak"],
+                "a unit to and fro",
+                [
+                    "with cash, ms",
+                    "clear",
+                    "impact",
+                    "rescues",
+                    "breaking",
+                    "MB, clear",
+                    "MB, impact",
+                    "MB, rescues",
+                    "MB, breaking",
+                ],
+                ["beside-leak"],
+            ),
+            (
+                ["reading", "--other", PROGRAM, "chain", "full-commas"],
+                "bytes read or printed",
+                ["wc, ms", "cat", "program", "other", "MB, program", "MB, other"],
+                ["chain", "full-commas"],
+            ),
+            (
+                ["reading", "journal"],
+                "bytes read or printed",
+                ["wc, ms", "cat", "program", "MB, program"],
+                ["a journal, its payments printed", "a journal printed", "a journal replayed"],
+            ),
+            (
+                ["others", "ordinary"],
+                "the payments",
+                ["clearing, ms", "fictitious", "iteration", "graph", "far, units"],
+                ["ordinary"],
+            ),
         ):
             with self.subTest(words=words):
                 status, lines, told = self.run_of(*words)
@@ -112,14 +165,22 @@ class Measure(Case):
         self.assertEqual((status, cells(lines[1])[-1]), (0, "yes"), told)
         heads = ["peer, ms", "clear", "1 worker", "1 w., 1000 sweeps", "central", "MB, 1 worker", "MB, peer", "same"]
         self.table(lines, "the payments", heads, ["chain"])
-        status, lines, _ = self.run_of("peer", "chain", PATH=path, program=self.odd("central", 'echo other; exit'))
+        status, lines, _ = self.run_of("peer", "chain", PATH=path, program=self.odd("central", "echo other; exit"))
         self.assertEqual((status, cells(lines[1])[-1]), (0, "NO"))
         status, lines, told = self.run_of("peer", "full", "stress", PATH=path)
         heads = ["peer, ms", "program", "MB, program", "MB, peer", "same"]
-        self.table(lines[:5], "debts files of 8,388,608 bytes, check", heads,
-                   ["full-empty-lines", "full-blank-records", "full-commas", "full-comma-records"])
-        self.table(lines[5:], "a journal, a hundred scenarios", heads,
-                   ["replay, long-journal", "stress, largest-order, 1 workers", "stress, largest-order, 4 workers"])
+        self.table(
+            lines[:5],
+            "debts files of 8,388,608 bytes, check",
+            heads,
+            ["full-empty-lines", "full-blank-records", "full-commas", "full-comma-records"],
+        )
+        self.table(
+            lines[5:],
+            "a journal, a hundred scenarios",
+            heads,
+            ["replay, long-journal", "stress, largest-order, 1 workers", "stress, largest-order, 4 workers"],
+        )
         self.assertEqual([cells(line)[-1] for line in lines[6:]], ["yes"] * 3)
 
     def test_a_run_that_ends_otherwise_is_not_measured(self):
@@ -192,8 +253,10 @@ class Measure(Case):
 
     def test_tables_of_the_wide_limits_have_each_network_and_task(self):
         """With small networks of the same names, since those have a million debts."""
-        small = {name: functools.partial(inputs.spread, 12, 4, lambda bank: bank, name.rpartition("-")[2])
-                 for name in inputs.WIDE}
+        small = {
+            name: functools.partial(inputs.spread, 12, 4, lambda bank: bank, name.rpartition("-")[2])
+            for name in inputs.WIDE
+        }
         options = argparse.Namespace(inputs=["tasks", "stress", "many", "workers"], runs=1, limit=60, beside=None)
         self.addCleanup(os.chdir, os.getcwd())
         os.chdir(self.folder)
@@ -213,14 +276,26 @@ class Measure(Case):
         tasks, stress, many, workers = [part.splitlines() for part in parts]
         columns = ["defaults", "bounds", "rescue", "costs", "cost-bounds", "compress"]
         held = [f"MB, {task}" for task in ["clear", *columns]]
-        self.table(tasks, "beside clear, 1 worker", ["clear, ms", *columns, *held],
-                   ["wide-dense-order", "wide-dense-webster", "wide-scarce-order"])
-        self.table(stress, "stress, 100 scenarios", ["clear, ms", "stress", "MB, clear", "MB, stress"],
-                   ["wide-dense-order", "wide-tiered-order"])
+        self.table(
+            tasks,
+            "beside clear, 1 worker",
+            ["clear, ms", *columns, *held],
+            ["wide-dense-order", "wide-dense-webster", "wide-scarce-order"],
+        )
+        self.table(
+            stress,
+            "stress, 100 scenarios",
+            ["clear, ms", "stress", "MB, clear", "MB, stress"],
+            ["wide-dense-order", "wide-tiered-order"],
+        )
         columns = ["impact", "rescues", "breaking", "outcomes"]
         held = [f"MB, {task}" for task in ["clear", *columns]]
-        self.table(many, "4,500 banks, 150,000 debts", ["clear, ms", *columns, *held],
-                   ["wide-tiered-order", "wide-tiered-mixed"])
+        self.table(
+            many,
+            "4,500 banks, 150,000 debts",
+            ["clear, ms", *columns, *held],
+            ["wide-tiered-order", "wide-tiered-mixed"],
+        )
         heads = ["clear less reading and printing", "1 worker, ms", "4 workers", "64 workers", "reading, ms"]
         self.assertEqual(cells(workers[0]), heads)
         # What reading takes is taken off before the others are told in times of one worker.
@@ -249,7 +324,7 @@ class Measure(Case):
         last, before = ((100, 10), {"a": (20.0, 12.0), "b": (1.0, 1.0)}), ((5, 2), {"a": (2.0, 3.0)})
         beyond = scale.further(last, before)
         self.assertEqual([*beyond], ["a"])
-        for found, right in zip(beyond["a"], (20 * 10 ** 0.5, 24.0)):
+        for found, right in zip(beyond["a"], (20 * 10**0.5, 24.0)):
             self.assertAlmostEqual(found, right)
 
     def test_the_picture_of_growth_is_that_of_the_page(self):
@@ -279,18 +354,23 @@ class Measure(Case):
     def test_instructions_are_those_that_functions_take_themselves(self):
         """Of a file of callgrind's: a function has its name where it is called first, what it calls is counted there,
         and what copies memory is left out."""
-        text = ("summary: 99\nob=(1) x\nfl=(1) a.c\nfn=(1) main\n1 10\n+1 5\ncfn=(2) memcpy\ncalls=1 1\n+2 40\n* 3\n"
-                "cfi=(2) b.c\ncfn=(3) work\ncalls=1 7\n5 33\nfn=(2)\n1 40\nfn=(3)\n7 33\ntotals: 91\n")
+        text = (
+            "summary: 99\nob=(1) x\nfl=(1) a.c\nfn=(1) main\n1 10\n+1 5\ncfn=(2) memcpy\ncalls=1 1\n+2 40\n* 3\n"
+            "cfi=(2) b.c\ncfn=(3) work\ncalls=1 7\n5 33\nfn=(2)\n1 40\nfn=(3)\n7 33\ntotals: 91\n"
+        )
         self.assertEqual(instructions.own_cost(text), 10 + 5 + 3 + 33)
 
     def test_two_programs_are_counted_side_by_side(self):
         """By a tool that counts a hundred for the first program, and for the second a hundred and fifty in one task."""
-        self.file("valgrind", """#!/bin/sh
+        self.file(
+            "valgrind",
+            """#!/bin/sh
 out=${2#*=}
 count=100
 case "$*" in */after\\ bounds*) count=150 ;; esac
 printf 'fn=(1) main\\n1 %s\\n' $count >"$out"
-""").chmod(0o755)
+""",
+        ).chmod(0o755)
         for name in ("before", "after"):
             self.file(name, f'#!/bin/sh\nexec "{os.path.realpath(PROGRAM)}" "$@"\n').chmod(0o755)
         environment = {**os.environ, "PATH": f"{self.folder}:{os.environ['PATH']}"}
@@ -307,8 +387,15 @@ printf 'fn=(1) main\\n1 %s\\n' $count >"$out"
         self.assertEqual(len(tasks), 17)
 
     def test_faulty_words_measure_nothing(self):
-        for words in ([], ["speed"], ["tasks", "no-such"], ["tasks", "unit"], ["rules", "chain"], ["--runs", "0", "tasks"],
-                      ["--runs", "x", "tasks"]):
+        for words in (
+            [],
+            ["speed"],
+            ["tasks", "no-such"],
+            ["tasks", "unit"],
+            ["rules", "chain"],
+            ["--runs", "0", "tasks"],
+            ["--runs", "x", "tasks"],
+        ):
             status, lines, _ = self.run_of(*words)
             self.assertEqual((status, lines), (2, []), words)
         status, lines, told = self.run_of("--beside", "none", "workers", "chain")

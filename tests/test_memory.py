@@ -1,8 +1,9 @@
 """A visit that finds no memory has passed the gate: tried with a toolchain that refuses one allocation.
 
-The test `a_visit_without_memory_leaves_all_as_it_was` of the crate `run_tests` counts how often the gate is passed. Only where
-an allocation of a visit fails does it meet a visit without memory, and says so. An allocation before that is one of the test's
-own, and the test ends for want of memory. Each try builds the test anew, which takes a minute of a processor."""
+The test `a_visit_without_memory_leaves_all_as_it_was` of the crate `run_tests` counts how often the gate is passed.
+Only where an allocation of a visit fails does it meet a visit without memory, and says so. An allocation before that
+is one of the test's own, and the test ends for want of memory. Each try builds the test anew, which takes a minute of
+a processor."""
 import functools
 import shutil
 import subprocess
@@ -21,10 +22,15 @@ SAID = "the first visit found no memory"
 
 @functools.cache
 def outcome(number):
-    """How the test ends where the allocation of this number is refused: "visit" where the first visit met that, "memory" where the
-    test itself did, "ok" where none before did, and "failed"."""
-    done = subprocess.run(["rt", "try", "--test", "--fail-alloc", str(number), "--", NAME], cwd=CRATE, stdin=subprocess.DEVNULL,
-                          capture_output=True, encoding="utf-8")
+    """How the test ends where the allocation of this number is refused: "visit" where the first visit met that,
+    "memory" where the test itself did, "ok" where none before did, and "failed"."""
+    done = subprocess.run(
+        ["rt", "try", "--test", "--fail-alloc", str(number), "--", NAME],
+        cwd=CRATE,
+        stdin=subprocess.DEVNULL,
+        capture_output=True,
+        encoding="utf-8",
+    )
     lines = done.stdout.splitlines()
     if f"test workers::{NAME} ... ok" in lines:
         return "visit" if SAID in done.stdout else "ok"

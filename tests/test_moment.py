@@ -18,7 +18,9 @@ class Moment(Case):
         return mock.patch.dict(os.environ, {"SOURCE_DATE_EPOCH": moment})
 
     def test_there_is_one_reader(self):
-        readers = [path.name for path in PACKAGES.rglob("*.py") if '"SOURCE_DATE_EPOCH"' in path.read_text(encoding="utf-8")]
+        readers = [
+            path.name for path in PACKAGES.rglob("*.py") if '"SOURCE_DATE_EPOCH"' in path.read_text(encoding="utf-8")
+        ]
         self.assertEqual(readers, ["description.py"])
 
     def test_it_is_that_moment_or_now(self):
@@ -29,7 +31,9 @@ class Moment(Case):
             self.assertLessEqual(abs(int(description.now()[:4]) - year), 1)
             self.assertEqual(tool("clearing-case", "refresh", self.case()).returncode, 0)
         for wrong in WRONG:
-            with self.at(wrong), self.assertRaisesRegex(cc.CaseError, "^SOURCE_DATE_EPOCH: .* is not a number of whole seconds"):
+            with self.at(wrong), self.assertRaisesRegex(
+                cc.CaseError, "^SOURCE_DATE_EPOCH: .* is not a number of whole seconds"
+            ):
                 cc.Case(cc.Network({"A": 1}, {})).write(self.folder / "none")
         self.assertFalse((self.folder / "none").exists())
 
@@ -49,8 +53,10 @@ class Moment(Case):
         before = {path.name: path.read_bytes() for path in place.iterdir()}
         self.program('echo run >>"$0.ran"\nexit 1\n')
         for words in (
-            ["clearing-report", *files_of(CHAIN), "--out", self.folder / "r.html"], ["clearing-case", "refresh", place],
-            ["clearing-case", "scenarios", place, shocks], ["clearing-desk", *files_of(CHAIN), "--no-browser"],
+            ["clearing-report", *files_of(CHAIN), "--out", self.folder / "r.html"],
+            ["clearing-case", "refresh", place],
+            ["clearing-case", "scenarios", place, shocks],
+            ["clearing-desk", *files_of(CHAIN), "--no-browser"],
             ["clearing-from-list", sheet, "--table", table, "--case", self.folder / "made"],
         ):
             with self.at("soon"):
@@ -60,14 +66,34 @@ class Moment(Case):
         self.assertEqual(left, ["case", "clearing", "list.csv", "shocks.csv", "table.csv"])
         # Who makes nothing of the kind does not ask.
         with self.at("soon"):
-            self.told("clearing-from-list", sheet, "--table", table, "--banks", self.folder / "b", "--debts", self.folder / "d")
+            self.told(
+                "clearing-from-list",
+                sheet,
+                "--table",
+                table,
+                "--banks",
+                self.folder / "b",
+                "--debts",
+                self.folder / "d",
+            )
 
     @needs_modules("jinja2")
     def test_the_report_is_made_where_it_is_empty(self):
-        for moment, told in (("86400", "1970-01-02 00:00 UTC"), ("", f"{datetime.datetime.now(datetime.timezone.utc).year}-")):
+        for moment, told in (
+            ("86400", "1970-01-02 00:00 UTC"),
+            ("", f"{datetime.datetime.now(datetime.timezone.utc).year}-"),
+        ):
             out = self.folder / "r.html"
             with self.at(moment):
-                done = subprocess.run([*map(str, run_of("clearing-report", python_with("jinja2"))), *map(str, files_of(CHAIN)), "--out", str(out)],
-                                      capture_output=True, encoding="utf-8")
+                done = subprocess.run(
+                    [
+                        *map(str, run_of("clearing-report", python_with("jinja2"))),
+                        *map(str, files_of(CHAIN)),
+                        "--out",
+                        str(out),
+                    ],
+                    capture_output=True,
+                    encoding="utf-8",
+                )
             self.assertEqual(done.returncode, 0, done.stderr)
             self.assertIn(told, out.read_text(encoding="utf-8"))

@@ -13,8 +13,17 @@ from clearing_tools import money
 from clearing_tools.casework import side_by_side
 from clearing_tools.desk import hints
 
-UNITS = ["1", "0.01", "1000", "1E+3", "2.50", "0.1234567890123456789", "1.00000000000000000000000000001",
-         "999999999999999.123456789012345678901234567890123456789", "0." + "0" * 14 + "1" * 120]
+UNITS = [
+    "1",
+    "0.01",
+    "1000",
+    "1E+3",
+    "2.50",
+    "0.1234567890123456789",
+    "1.00000000000000000000000000001",
+    "999999999999999.123456789012345678901234567890123456789",
+    "0." + "0" * 14 + "1" * 120,
+]
 AMOUNTS = [0, 1, -1, 7, 999, 10**6 - 1, 10**12 + 1, 25 * 10**18 + 3]
 
 
@@ -61,5 +70,11 @@ class Digits(unittest.TestCase):
         self.assertEqual(money.Money(Decimal("1E+3"), "EUR").about(), "Amounts in EUR; a unit of account is EUR 1,000.")
         self.assertEqual(money.Money(Decimal("0.10"), "EUR")(10**12 + 1), "EUR 100,000,000,000.1")
         self.assertEqual(money.Money(Decimal("1000")).in_short(-12_345_678), "-12.35\u00a0billion")
-        self.assertEqual([money.Money(None, "EUR").scale_of([10**9]).number(units) for units in (-10**6, 1, 0)], ["\u22121", "<1", "0"])
-        self.assertEqual([side_by_side.shown(Decimal(text)) for text in ("100", "1E+2", "0.50", "-3.00")], ["100", "100", "0.50", "\u22123"])
+        self.assertEqual(
+            [money.Money(None, "EUR").scale_of([10**9]).number(units) for units in (-(10**6), 1, 0)],
+            ["\u22121", "<1", "0"],
+        )
+        self.assertEqual(
+            [side_by_side.shown(Decimal(text)) for text in ("100", "1E+2", "0.50", "-3.00")],
+            ["100", "100", "0.50", "\u22123"],
+        )

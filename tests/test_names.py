@@ -1,7 +1,8 @@
 """Every link, path, command and name of code that a document cites is there.
 
-A name in back quotes is looked for where its text says that it stands: `crate::name` in that crate, `crate::laws::name` among its
-laws, `crate`: `name` in that crate, names after a file in that file, and any other name somewhere in the repository.
+A name in back quotes is looked for where its text says that it stands: `crate::name` in that crate,
+`crate::laws::name` among its laws, `crate`: `name` in that crate, names after a file in that file, and any other name
+somewhere in the repository.
 
 `python3 test_names.py --list` prints the names of code that each page cites.
 """
@@ -16,8 +17,33 @@ CRATES = sorted(folder.name for folder in (ROOT / "crates").iterdir() if (folder
 # Crates of the toolchain that documents name.
 PORTED = {"atomic_table", "clap", "csv", "indexmap", "itoa", "rand_core", "rand_pcg", "std", "toml"}
 # Programs that commands begin with beside those of the repository.
-PROGRAMS = {"awk", "cat", "cmp", "cp", "diff", "docker", "dpkg", "echo", "for", "git", "grep", "head", "ls", "man", "mkdir", "nice", "printf",
-            "python3", "rt", "sed", "sh", "sha256sum", "tail", "tar", "wc"}
+PROGRAMS = {
+    "awk",
+    "cat",
+    "cmp",
+    "cp",
+    "diff",
+    "docker",
+    "dpkg",
+    "echo",
+    "for",
+    "git",
+    "grep",
+    "head",
+    "ls",
+    "man",
+    "mkdir",
+    "nice",
+    "printf",
+    "python3",
+    "rt",
+    "sed",
+    "sh",
+    "sha256sum",
+    "tail",
+    "tar",
+    "wc",
+}
 # Functions of the C library and of the toolchain's own, which documents name as what is trusted.
 TRUSTED = re.compile(r"(rattle|pthread|sched)_[a-z_]+|__[a-z0-9_]+")
 WORD = re.compile(r"[A-Za-z_][A-Za-z0-9_]*")
@@ -30,8 +56,11 @@ EMPTY_NAMES = {"few", "one", "others", "same", "some"}
 
 
 def documents():
-    return [path for path in [*sorted(ROOT.glob("*.md")), *sorted((ROOT / "docs").glob("*.md")), ROOT / "examples/README.md"]
-            if path.is_file()]
+    return [
+        path
+        for path in [*sorted(ROOT.glob("*.md")), *sorted((ROOT / "docs").glob("*.md")), ROOT / "examples/README.md"]
+        if path.is_file()
+    ]
 
 
 def prose_of(text):
@@ -47,29 +76,47 @@ def words_in(paths):
 def words_of(crate):
     """All words of a crate: its sources, definitions and proofs, and the names of its files and edits."""
     folder = ROOT / "crates" / crate
-    files = [path for part in ("src", "specs", "proofs", "must-fail", "edits") for path in (folder / part).rglob("*") if path.is_file()]
+    files = [
+        path
+        for part in ("src", "specs", "proofs", "must-fail", "edits")
+        for path in (folder / part).rglob("*")
+        if path.is_file()
+    ]
     code = [path for path in files if path.suffix in (".rt", ".antt")]
-    return words_in(code) | {path.stem for path in files} | {part for path in files for part in path.relative_to(folder).parts}
+    return (
+        words_in(code)
+        | {path.stem for path in files}
+        | {part for path in files for part in path.relative_to(folder).parts}
+    )
 
 
 @functools.cache
 def all_words():
-    scripts = [path for folder in ("tools", "bin", "bench", "tests", "python", "examples", "r") for path in (ROOT / folder).rglob("*")
-               if path.suffix in (".py", ".sh", ".rs", ".c", ".csv", ".toml", ".bash", ".fish", ".R") and path.name != "test_names.py"]
+    scripts = [
+        path
+        for folder in ("tools", "bin", "bench", "tests", "python", "examples", "r")
+        for path in (ROOT / folder).rglob("*")
+        if path.suffix in (".py", ".sh", ".rs", ".c", ".csv", ".toml", ".bash", ".fish", ".R")
+        and path.name != "test_names.py"
+    ]
     return set().union(*map(words_of, CRATES)) | words_in(scripts) | set(CRATES) | {path.stem for path in scripts}
 
 
 @functools.cache
 def laws_of(crate):
     path = ROOT / "crates" / crate / "src/laws.rt"
-    return set(re.findall(r"^pub fn (\w+)", path.read_text(encoding="utf-8"), re.MULTILINE)) if path.is_file() else set()
+    return (
+        set(re.findall(r"^pub fn (\w+)", path.read_text(encoding="utf-8"), re.MULTILINE)) if path.is_file() else set()
+    )
 
 
 def anchors_of(path):
     """The anchors of a page: those that GitHub makes of its headings, and those that it names."""
     text = path.read_text(encoding="utf-8")
     heads = re.findall(r"^#+ (.*)$", prose_of(text), re.MULTILINE)
-    return {re.sub(r"[^\w\- ]", "", head.lower()).replace(" ", "-") for head in heads} | set(re.findall(r'<a id="([\w-]+)"></a>', text))
+    return {re.sub(r"[^\w\- ]", "", head.lower()).replace(" ", "-") for head in heads} | set(
+        re.findall(r'<a id="([\w-]+)"></a>', text)
+    )
 
 
 def is_name(token):
@@ -92,7 +139,11 @@ def missing_names(text):
             crate, names = parts[0], parts[1:]
             if crate in CRATES:
                 # Where a name follows `laws` it is a law.
-                here = laws_of(crate) if names[0] == "laws" and len(names) > 1 else words_of(crate) | {"laws", "proofs", "specs"}
+                here = (
+                    laws_of(crate)
+                    if names[0] == "laws" and len(names) > 1
+                    else words_of(crate) | {"laws", "proofs", "specs"}
+                )
                 lost += [token] if names[-1] not in here else []
             elif crate not in PORTED and not (crate in all_words() and names[-1] in all_words()):
                 lost.append(token)
@@ -100,7 +151,11 @@ def missing_names(text):
             lost.append(token)
     for crate, names in IN_CRATE.findall(prose_of(text)):
         if crate in CRATES:
-            lost += [f"{crate}: {name}" for name in re.findall(r"\w+", names.replace(" and", "")) if name not in words_of(crate)]
+            lost += [
+                f"{crate}: {name}"
+                for name in re.findall(r"\w+", names.replace(" and", ""))
+                if name not in words_of(crate)
+            ]
     return lost
 
 
@@ -134,7 +189,9 @@ def missing_paths(path, text):
             lost.append(target)
     for token in QUOTED.findall(prose_of(text)):
         name = token.split(" ")[0].removeprefix("./")
-        if name.startswith(tuple(folder + "/" for folder in FOLDERS)) and not re.search(r"[A-Z*]{3}|/out/|\*|\.\.", name):
+        if name.startswith(tuple(folder + "/" for folder in FOLDERS)) and not re.search(
+            r"[A-Z*]{3}|/out/|\*|\.\.", name
+        ):
             lost += [token] if not (ROOT / name).exists() else []
     return lost
 
@@ -146,7 +203,13 @@ def commands_of(text):
         if language == "console":
             yield from (line[2:] for line in lines if line.startswith("$ "))
         elif language == "":
-            yield from (line for line in lines if re.match(r"(\./clearing|\./first-look|bin/|tools/|bench/|tests/|\.ci/|rt |git |sha256sum |python3 )", line))
+            yield from (
+                line
+                for line in lines
+                if re.match(
+                    r"(\./clearing|\./first-look|bin/|tools/|bench/|tests/|\.ci/|rt |git |sha256sum |python3 )", line
+                )
+            )
 
 
 @functools.cache
@@ -174,8 +237,11 @@ def named_edits(text):
 
 def wrong_edits(text):
     """The wrong bodies that a page's tables name, and that do not stand where they say."""
-    return [f"{crate}: {name}" for crate, name, beside in named_edits(text)
-            if not (ROOT / "crates" / crate / ("edits" if beside else "must-fail") / f"{name}.edit").is_file()]
+    return [
+        f"{crate}: {name}"
+        for crate, name, beside in named_edits(text)
+        if not (ROOT / "crates" / crate / ("edits" if beside else "must-fail") / f"{name}.edit").is_file()
+    ]
 
 
 def definitions_below(*paths):
@@ -244,22 +310,47 @@ class Names(unittest.TestCase):
         self.each(lambda path, text: wrong_commands(text))
 
     def test_what_is_missing_is_told(self):
-        self.assertEqual(missing_names("`clear_core::laws::least_is_most` `no_such_name` `clr_net`: `row`, `pole`"),
-                         ["clear_core::laws::least_is_most", "no_such_name", "clr_net: pole"])
-        self.assertEqual(missing_in_files("*In the code: `clr_net/specs/Net.antt`: `row`, `award`; `clr_net/specs/No.antt`: `x`.*\n"),
-                         ["clr_net/specs/Net.antt: award", "clr_net/specs/No.antt"])
-        self.assertEqual(missing_paths(ROOT / "README.md", "[a](docs/NO.md) [b](docs/GUIDE.md#no) [c](docs/GUIDE.md) `tools/no.sh a`"),
-                         ["docs/NO.md", "docs/GUIDE.md#no", "tools/no.sh a"])
-        self.assertEqual(wrong_commands("```console\n$ tools/no.sh x\n$ bin/clearing-lint --nonsense\n$ nothing\n```\n"),
-                         ["tools/no.sh x", "tools/no.sh", "bin/clearing-lint --nonsense", "nothing"])
-        self.assertEqual(wrong_commands("```console\n$ bin/clearing-case scenarios a b --amounts-in 10\n$ bin/clearing-case show a --amounts-in 10\n```\n"),
-                         ["bin/clearing-case --amounts-in"])
-        self.assertEqual(missing_paths(ROOT / "README.md", "[a](docs/GLOSSARY.md#one-unit) [b](docs/GLOSSARY.md#two-units)"),
-                         ["docs/GLOSSARY.md#two-units"])
+        self.assertEqual(
+            missing_names("`clear_core::laws::least_is_most` `no_such_name` `clr_net`: `row`, `pole`"),
+            ["clear_core::laws::least_is_most", "no_such_name", "clr_net: pole"],
+        )
+        self.assertEqual(
+            missing_in_files(
+                "*In the code: `clr_net/specs/Net.antt`: `row`, `award`; `clr_net/specs/No.antt`: `x`.*\n"
+            ),
+            ["clr_net/specs/Net.antt: award", "clr_net/specs/No.antt"],
+        )
+        self.assertEqual(
+            missing_paths(
+                ROOT / "README.md", "[a](docs/NO.md) [b](docs/GUIDE.md#no) [c](docs/GUIDE.md) `tools/no.sh a`"
+            ),
+            ["docs/NO.md", "docs/GUIDE.md#no", "tools/no.sh a"],
+        )
+        self.assertEqual(
+            wrong_commands("```console\n$ tools/no.sh x\n$ bin/clearing-lint --nonsense\n$ nothing\n```\n"),
+            ["tools/no.sh x", "tools/no.sh", "bin/clearing-lint --nonsense", "nothing"],
+        )
+        self.assertEqual(
+            wrong_commands(
+                "```console\n$ bin/clearing-case scenarios a b --amounts-in 10\n$ bin/clearing-case show a --amounts-in"
+                " 10\n```\n"
+            ),
+            ["bin/clearing-case --amounts-in"],
+        )
+        self.assertEqual(
+            missing_paths(ROOT / "README.md", "[a](docs/GLOSSARY.md#one-unit) [b](docs/GLOSSARY.md#two-units)"),
+            ["docs/GLOSSARY.md#two-units"],
+        )
 
     def test_the_laws_that_are_tried_at_networks_are_counted(self):
-        laws = sum(len(re.findall(r"^pub fn ", path.read_text(), re.MULTILINE)) for path in ROOT.glob("crates/*/src/laws.rt"))
-        tried = {name for path in ROOT.glob("crates/law_tests/src/*.rt") for name in re.findall(r"\w+::laws::\w+", path.read_text())}
+        laws = sum(
+            len(re.findall(r"^pub fn ", path.read_text(), re.MULTILINE)) for path in ROOT.glob("crates/*/src/laws.rt")
+        )
+        tried = {
+            name
+            for path in ROOT.glob("crates/law_tests/src/*.rt")
+            for name in re.findall(r"\w+::laws::\w+", path.read_text())
+        }
         self.assertIn(f"`law_tests`, of {len(tried)} of the {laws} laws", (ROOT / "docs/CLAUSES.md").read_text())
 
     def test_clauses_that_others_read_have_names_that_say_something(self):

@@ -1,5 +1,6 @@
-"""What the program does with the system: each file of a run is opened once, to be read, and nothing else is; what is read of a file is
-its front; names are taken as they are; want of memory has a message of its own, and is not told where a file may not be read."""
+"""What the program does with the system: each file of a run is opened once, to be read, and nothing else is; what is
+read of a file is its front; names are taken as they are; want of memory has a message of its own, and is not told
+where a file may not be read."""
 import os
 import re
 import resource
@@ -14,7 +15,11 @@ BANKS = "name,cash,rule\nA,7,order\nB,1,order\nC,0,order\n"
 DEBTS = "debtor,creditor,class,claim\nA,B,1,10\nB,C,1,9\n"
 PAID = "debtor,creditor,class,claim,paid\nA,B,1,10,7\nB,C,1,9,8\n"
 SCENARIOS = '[[scenario]]\nname = "a"\n'
-THIRDS = {"stress": ("scenarios", SCENARIOS), "outcomes": ("scenarios", SCENARIOS), "replay": ("journal", "stamp,debtor,creditor,class,to\n1,A,B,1,7\n2,B,C,1,8\n")}
+THIRDS = {
+    "stress": ("scenarios", SCENARIOS),
+    "outcomes": ("scenarios", SCENARIOS),
+    "replay": ("journal", "stamp,debtor,creditor,class,to\n1,A,B,1,7\n2,B,C,1,8\n"),
+}
 MEMORY = "clearing: out of memory\n"
 # Long enough for any run here, and far from forever.
 SECONDS = 20
@@ -34,14 +39,37 @@ class Outside(Case):
     def run_on(self, *words, **how):
         """A run of the program: its status, what it writes and what it tells."""
         how = {"stdin": subprocess.DEVNULL, "timeout": SECONDS, "cwd": self.folder, **how}
-        done = subprocess.run([how.pop("program", PROGRAM), *map(str, words)], capture_output=True, encoding="utf-8", **how)
+        done = subprocess.run(
+            [how.pop("program", PROGRAM), *map(str, words)], capture_output=True, encoding="utf-8", **how
+        )
         return done.returncode, done.stdout, done.stderr
 
     def tasks(self):
         """Each task that reads files: its words, and the paths of its files."""
-        more = {"costs": ["--keep", "500"], "cost-bounds": ["--keep", "500"], "rescue": ["--bank", "B"], "clear": ["--workers", "1"]}
-        for task in ("check", "clear", "central", "defaults", "convert", "bounds", "compress", "costs", "cost-bounds", "rescue", "rescues",
-                     "breaking", "impact", "stress", "outcomes", "replay"):
+        more = {
+            "costs": ["--keep", "500"],
+            "cost-bounds": ["--keep", "500"],
+            "rescue": ["--bank", "B"],
+            "clear": ["--workers", "1"],
+        }
+        for task in (
+            "check",
+            "clear",
+            "central",
+            "defaults",
+            "convert",
+            "bounds",
+            "compress",
+            "costs",
+            "cost-bounds",
+            "rescue",
+            "rescues",
+            "breaking",
+            "impact",
+            "stress",
+            "outcomes",
+            "replay",
+        ):
             third = self.thirds.get(task, [])
             yield [task, *self.files, *third, *more.get(task, [])], [self.files[1], self.files[3], *third[1:]]
 
@@ -57,8 +85,11 @@ class Outside(Case):
                     self.assertEqual(self.run_on(*(pipe if word == path else word for word in words)), wanted)
 
     def test_of_a_file_without_an_end_the_front_is_read(self):
-        for name, words in (("banks", ["check", "--banks", "/dev/zero", *self.files[2:]]), ("debts", ["clear", *self.files[:2], "--debts", "/dev/zero"]),
-                            ("scenarios", ["stress", *self.files, "--scenarios", "/dev/zero"])):
+        for name, words in (
+            ("banks", ["check", "--banks", "/dev/zero", *self.files[2:]]),
+            ("debts", ["clear", *self.files[:2], "--debts", "/dev/zero"]),
+            ("scenarios", ["stress", *self.files, "--scenarios", "/dev/zero"]),
+        ):
             with self.subTest(file=name):
                 told = self.run_on(*words, preexec_fn=memory_of(200_000))
                 self.assertEqual(told, (4, "", f"clearing: {name} row 0: file size (14)\n"))
@@ -84,7 +115,9 @@ class Outside(Case):
         for name in ("a ", " a", "a\t", "a\u00a0", "a."):
             self.file(name.strip(" \t\u00a0."), BANKS.replace("A,7", "A,5"))
             with self.subTest(name=name):
-                self.assertEqual(self.run_on("clear", "--banks", name, *self.files[2:]), (3, "", f"clearing: cannot read {name}\n"))
+                self.assertEqual(
+                    self.run_on("clear", "--banks", name, *self.files[2:]), (3, "", f"clearing: cannot read {name}\n")
+                )
                 self.file(name, BANKS)
                 self.assertEqual(self.run_on("clear", "--banks", name, *self.files[2:]), (0, PAID, ""))
 
@@ -120,10 +153,16 @@ class Outside(Case):
     def traced(self, *words):
         """The calls of a run that name a file, without the numbers that they answer."""
         log = self.file("calls")
-        done = subprocess.run(["strace", "-f", "-qq", "-e", "trace=%file", "-e", "signal=none", "-o", log, PROGRAM, *map(str, words)],
-                              stdin=subprocess.DEVNULL, capture_output=True, timeout=SECONDS)
+        done = subprocess.run(
+            ["strace", "-f", "-qq", "-e", "trace=%file", "-e", "signal=none", "-o", log, PROGRAM, *map(str, words)],
+            stdin=subprocess.DEVNULL,
+            capture_output=True,
+            timeout=SECONDS,
+        )
         calls = [re.sub(r"^[0-9]+ +", "", line) for line in log.read_text().splitlines()] if log.exists() else []
-        return done.returncode, [re.sub(r" = .*", "", call) for call in calls if not call.startswith(("execve(", "+++"))]
+        return done.returncode, [
+            re.sub(r" = .*", "", call) for call in calls if not call.startswith(("execve(", "+++"))
+        ]
 
     def test_a_text_is_written_in_no_more_writes_than_it_has_lines(self) -> None:
         files, largest = files_of(TWELVE), ["gen", "--seed", 1, "--size", 1000, "--tries", 20000]
@@ -154,12 +193,18 @@ class Outside(Case):
         for words, paths in [*self.tasks(), (["gen", "--seed", "1", "--size", "2", "--tries", "3"], [])]:
             with self.subTest(task=words[0]):
                 status, calls = self.traced(*words)
-                self.assertEqual((status, calls[:len(before)]), (0, before))
-                opened = [re.fullmatch(r'openat\(AT_FDCWD, "(.*)", (.*)\)', call) for call in calls[len(before):]]
-                self.assertTrue(all(opened), calls[len(before):])
+                self.assertEqual((status, calls[: len(before)]), (0, before))
+                opened = [re.fullmatch(r'openat\(AT_FDCWD, "(.*)", (.*)\)', call) for call in calls[len(before) :]]
+                self.assertTrue(all(opened), calls[len(before) :])
                 self.assertEqual([call[1] for call in opened], [str(path) for path in paths])
                 # To be read alone, and never made or cut.
-                self.assertTrue(all({"O_RDONLY"} <= set(call[2].split("|")) <= {"O_RDONLY", "O_NOCTTY", "O_CLOEXEC"} for call in opened), calls)
+                self.assertTrue(
+                    all(
+                        {"O_RDONLY"} <= set(call[2].split("|")) <= {"O_RDONLY", "O_NOCTTY", "O_CLOEXEC"}
+                        for call in opened
+                    ),
+                    calls,
+                )
 
     def test_nothing_more_is_opened_after_a_file_that_stops_a_run(self):
         if not shutil.which("strace") or self.traced()[0] != 2:
@@ -176,8 +221,10 @@ class Outside(Case):
                         self.assertEqual(status, 3 if wrong == missing else 4)
                         opened = [call for call in calls if f'"{self.folder}/' in call]
                         # What a file has in it is looked at once all are there.
-                        wanted = [*paths[:number], wrong, *([] if wrong != bad else paths[number + 1:])]
-                        self.assertEqual([re.search(r'"(.*?)"', call)[1] for call in opened], [str(path) for path in wanted])
+                        wanted = [*paths[:number], wrong, *([] if wrong != bad else paths[number + 1 :])]
+                        self.assertEqual(
+                            [re.search(r'"(.*?)"', call)[1] for call in opened], [str(path) for path in wanted]
+                        )
 
 
 if __name__ == "__main__":

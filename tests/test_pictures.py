@@ -54,19 +54,31 @@ class Network(Pictures):
         # A pays 7 of 10, B 8 of 9, and C owes nothing.
         self.assertIn("A to B: 7 of 10 paid", titles(svg))
         self.assertIn("B to C: 8 of 9 paid", titles(svg))
-        self.assertEqual([text for text in texts(svg) if text in ("A", "B", "C") or text.endswith(" unpaid")], ["A", "3 unpaid", "B", "1 unpaid", "C"])
+        self.assertEqual(
+            [text for text in texts(svg) if text in ("A", "B", "C") or text.endswith(" unpaid")],
+            ["A", "3 unpaid", "B", "1 unpaid", "C"],
+        )
         flows = [group for group in tree.fromstring(svg).iter(f"{SVG}g") if group.get("data-flow")]
-        widths = {group.get("data-flow"): float(next(path for path in group.iter(f"{SVG}path") if kind(path, "line")).get("stroke-width"))
-                  for group in flows}
+        widths = {
+            group.get("data-flow"): float(
+                next(path for path in group.iter(f"{SVG}path") if kind(path, "line")).get("stroke-width")
+            )
+            for group in flows
+        }
         # The width is what stays unpaid, from zero: 3 and 1.
         self.assertEqual(widths, {"0": 15.0, "1": 5.0})
-        areas = {group.get("class").split("-")[1]: float(group.get("width")) ** 2 for group in tree.fromstring(svg).iter(f"{SVG}rect")
-                 if kind(group, "n")}
+        areas = {
+            group.get("class").split("-")[1]: float(group.get("width")) ** 2
+            for group in tree.fromstring(svg).iter(f"{SVG}rect")
+            if kind(group, "n")
+        }
         self.assertEqual(list(areas), ["fundamental"])
 
     def test_a_matrix_has_a_square_for_each_pair(self):
         svg = self.drawn(HUB, "--form", "matrix")
-        self.assertEqual(sum(" paid" in title and " to " in title for title in titles(svg)), 8 + 2)  # and two that owe outside
+        self.assertEqual(
+            sum(" paid" in title and " to " in title for title in titles(svg)), 8 + 2
+        )  # and two that owe outside
         self.assertIn("South to Hub: 100 of 120 paid", titles(svg))
 
     def test_the_title_has_figures_unit_and_currency(self):
@@ -83,7 +95,9 @@ class Network(Pictures):
         svg = self.drawn(CORE)
         # Twelve debtors and twelve creditors by name, all others in two blocks.
         said = texts(svg)
-        others = [int(text.split()[0]) for text in said if re.fullmatch("[0-9]+ others? (in default|that stands?)", text)]
+        others = [
+            int(text.split()[0]) for text in said if re.fullmatch("[0-9]+ others? (in default|that stands?)", text)
+        ]
         self.assertEqual((len(others), sum(others)), (4, 2 * 88))
         # Thirteen are in default, and the twelve debtors by name are of them.
         states = [line.split(",")[-1] for line in clearing("defaults", *CORE).stdout.decode().splitlines()]
@@ -100,15 +114,21 @@ class Network(Pictures):
         unpaid = self.drawn(TWELVE, "--only-unpaid")
         flows = [title for title in titles(unpaid) if " to " in title and title.endswith(" paid")]
         debts = [line.split(",") for line in clearing("clear", *TWELVE).stdout.decode().splitlines()[1:]]
-        self.assertEqual(sorted(title.split(":")[0] for title in flows),
-                         sorted({f"{row[0]} to {row[1]}" for row in debts if row[3] != row[4]}))
+        self.assertEqual(
+            sorted(title.split(":")[0] for title in flows),
+            sorted({f"{row[0]} to {row[1]}" for row in debts if row[3] != row[4]}),
+        )
         around = self.drawn(TWELVE, "--around", "Kemi")
         flows = [title for title in titles(around) if " to " in title and title.endswith(" paid")]
-        self.assertEqual(sorted(title.split(":")[0] for title in flows),
-                         sorted({f"{row[0]} to {row[1]}" for row in debts if "Kemi" in row[:2]}))
+        self.assertEqual(
+            sorted(title.split(":")[0] for title in flows),
+            sorted({f"{row[0]} to {row[1]}" for row in debts if "Kemi" in row[:2]}),
+        )
         self.refused("clearing-who-pays", 1, "no bank 'Nobody'", *self.both(TWELVE), "--around", "Nobody")
         # Where there is none, the picture says so.
-        sound = self.file("b.csv", "name,cash,rule\nA,9,order\nB,0,order\n"), self.file("e.csv", "debtor,creditor,class,claim\nA,B,1,5\n")
+        sound = self.file("b.csv", "name,cash,rule\nA,9,order\nB,0,order\n"), self.file(
+            "e.csv", "debtor,creditor,class,claim\nA,B,1,5\n"
+        )
         self.assertIn("There is no such debt", self.drawn(["--banks", sound[0], "--debts", sound[1]], "--only-unpaid"))
 
     def test_a_little_unpaid_is_not_paid_in_full(self):
@@ -151,11 +171,14 @@ class Network(Pictures):
     def test_names_stand_as_they_are_but_for_signs_that_are_not_seen(self):
         names = [name for name in ODD_NAMES if name.strip(" \t") == name]
         banks = self.file("b.csv", "name,cash,rule\n" + "".join(f"{name},1,order\n" for name in names))
-        debts = self.file("e.csv", "debtor,creditor,class,claim\n" + "".join(f"{a},{b},1,2\n" for a, b in zip(names, names[1:])))
+        debts = self.file(
+            "e.csv", "debtor,creditor,class,claim\n" + "".join(f"{a},{b},1,2\n" for a, b in zip(names, names[1:]))
+        )
         files = ["--banks", banks, "--debts", debts]
         for form in ("graph", "matrix"):
             said = "".join(tree.fromstring(self.drawn(files, "--form", form)).itertext())
-            # In a ring each name is told whole on pointing; in a matrix those are that have a row or a column of their own.
+            # In a ring each name is told whole on pointing; in a matrix those are that have a row or a column of
+            # their own.
             found = [name for name in map(shown, names) if name in said]
             self.assertEqual(found, list(map(shown, names)) if form == "graph" else found)
             self.assertGreaterEqual(len(found), 12)
@@ -173,17 +196,32 @@ class Network(Pictures):
             self.assertIn("<b>Cedar<U+202E></b>", [*texts(svg), *titles(svg)])
             self.assertIn("Aster & Söhne to B: 7 of 10 paid", titles(svg))
             self.assertNotIn("nobody", svg)
-        self.assertIn("B to <b>Cedar<U+202E></b>: 8 of 9 paid", titles(self.drawn(CHAIN, "--around", "C", "--labels", labels)))
+        self.assertIn(
+            "B to <b>Cedar<U+202E></b>: 8 of 9 paid", titles(self.drawn(CHAIN, "--around", "C", "--labels", labels))
+        )
         payments, defaults = self.both(CHAIN)
-        for text, status, message in [("name,label\n", 1, "the first row is not code,name"), ("code,name\nA\n", 1, "row 1: 1 fields in place of 2"),
-                                      ("code,name\nA,x\nA,y\n", 1, "row 2: 'A' has a full name already"), ('code,name\n"A,x\n', 1, "unexpected end of data")]:
+        for text, status, message in [
+            ("name,label\n", 1, "the first row is not code,name"),
+            ("code,name\nA\n", 1, "row 1: 1 fields in place of 2"),
+            ("code,name\nA,x\nA,y\n", 1, "row 2: 'A' has a full name already"),
+            ('code,name\n"A,x\n', 1, "unexpected end of data"),
+        ]:
             self.refused("clearing-who-pays", status, message, payments, defaults, "--labels", self.file("l.csv", text))
         self.refused("clearing-who-pays", 1, "cannot be read", payments, defaults, "--labels", self.folder / "none.csv")
         # No bank is called as another one is.
         banks = self.file("banks.csv", "name,cash,rule\nA,1,order\nx,1,order\n")
-        payments, defaults = self.both(["--banks", banks, "--debts", self.file("debts.csv", "debtor,creditor,class,claim\nA,x,1,2\n")])
-        self.refused("clearing-who-pays", 1, "with its full name the bank 'A' is called as another bank is", payments, defaults,
-                     "--labels", self.file("l.csv", "code,name\nA,x\n"))
+        payments, defaults = self.both(
+            ["--banks", banks, "--debts", self.file("debts.csv", "debtor,creditor,class,claim\nA,x,1,2\n")]
+        )
+        self.refused(
+            "clearing-who-pays",
+            1,
+            "with its full name the bank 'A' is called as another bank is",
+            payments,
+            defaults,
+            "--labels",
+            self.file("l.csv", "code,name\nA,x\n"),
+        )
 
     def test_texts_of_other_networks_and_faulty_words_are_refused(self):
         payments, defaults = self.text("p.csv", "clear", CHAIN), self.text("d.csv", "defaults", HUB)
@@ -199,7 +237,9 @@ class Network(Pictures):
         self.refused("clearing-who-pays", 1, "cannot write", payments, defaults, "--output", self.folder)
         self.assertEqual(payments.read_bytes(), before)
         self.made("clearing-who-pays", payments, defaults, "--output", self.folder / "out.svg")
-        self.assertEqual((self.folder / "out.svg").read_text(encoding="utf-8"), self.made("clearing-who-pays", payments, defaults))
+        self.assertEqual(
+            (self.folder / "out.svg").read_text(encoding="utf-8"), self.made("clearing-who-pays", payments, defaults)
+        )
 
 
 @needs_modules("matplotlib")
@@ -218,16 +258,31 @@ class Charts(Pictures):
         for more in ([], ["--payments", payments]):
             said = self.chart("clearing-shortfalls", defaults, *more)
             self.assertIn("4 of 12 banks in default leave 1,493,329 units unpaid", said)
-            for words in ("Dunmore", "699,999 (33.3%)", "Isar", "400,000 (26.7%)", "Elbe", "279,999 (14.7%)", "Birk", "113,331 (3.9%)"):
+            for words in (
+                "Dunmore",
+                "699,999 (33.3%)",
+                "Isar",
+                "400,000 (26.7%)",
+                "Elbe",
+                "279,999 (14.7%)",
+                "Birk",
+                "113,331 (3.9%)",
+            ):
                 self.assertIn(words, said)
             self.assertNotIn("Alster", said)
-        self.assertIn("EUR 1,493,329,000", " ".join(self.chart("clearing-shortfalls", defaults, "--unit", "1000", "--currency", "EUR")))
+        self.assertIn(
+            "EUR 1,493,329,000",
+            " ".join(self.chart("clearing-shortfalls", defaults, "--unit", "1000", "--currency", "EUR")),
+        )
 
     def test_full_names_stand_in_charts_too(self):
         labels = self.file("l.csv", "code,name\nDunmore,Dunmore Bank plc\nIsar,Isar $1$ AG\nAlster,Alster Bank\n")
         defaults = self.text("d.csv", "defaults", TWELVE)
         stress = self.text("s.txt", "stress", TWELVE, "--scenarios", self.file("s.toml", '[[scenario]]\nname = "x"\n'))
-        for said in (self.chart("clearing-shortfalls", defaults, "--labels", labels), self.chart("clearing-stress-map", stress, "--labels", labels)):
+        for said in (
+            self.chart("clearing-shortfalls", defaults, "--labels", labels),
+            self.chart("clearing-stress-map", stress, "--labels", labels),
+        ):
             for words in ("Dunmore Bank plc", "Isar $1$ AG", "Elbe", "Birk"):
                 self.assertIn(words, said)
             self.assertNotIn("Alster", " ".join(said))
@@ -237,13 +292,27 @@ class Charts(Pictures):
         for banks in (4, 16, 40):
             rows = [f"b{at},{0 if at % 2 else 9},webster" for at in range(banks)]
             debts = [f"b{at},b{(at + far) % banks},1,{3 + at}" for at in range(banks) for far in (1, 2)]
-            files = ["--banks", self.file("b.csv", "name,cash,rule\n" + "\n".join(rows) + "\n"),
-                     "--debts", self.file("e.csv", "debtor,creditor,class,claim\n" + "\n".join(debts) + "\n")]
-            labels = self.file("l.csv", "code,name\n" + "".join(f'b{at},"{names[at % 2]}{at}"\n' for at in range(banks)))
+            files = [
+                "--banks",
+                self.file("b.csv", "name,cash,rule\n" + "\n".join(rows) + "\n"),
+                "--debts",
+                self.file("e.csv", "debtor,creditor,class,claim\n" + "\n".join(debts) + "\n"),
+            ]
+            labels = self.file(
+                "l.csv", "code,name\n" + "".join(f'b{at},"{names[at % 2]}{at}"\n' for at in range(banks))
+            )
             payments, defaults = self.both(files)
-            stress = self.text("s.txt", "stress", files, "--scenarios", self.file("s.toml", f'[[scenario]]\nname = "{"s" * 64}"\ncut = 900\n'))
-            for said in (self.chart("clearing-shortfalls", defaults, "--payments", payments, "--labels", labels, "--most", 40),
-                         self.chart("clearing-stress-map", stress, "--labels", labels)):
+            stress = self.text(
+                "s.txt",
+                "stress",
+                files,
+                "--scenarios",
+                self.file("s.toml", f'[[scenario]]\nname = "{"s" * 64}"\ncut = 900\n'),
+            )
+            for said in (
+                self.chart("clearing-shortfalls", defaults, "--payments", payments, "--labels", labels, "--most", 40),
+                self.chart("clearing-stress-map", stress, "--labels", labels),
+            ):
                 self.assertTrue(any("\u2026" in words for words in said))
                 self.assertNotIn(f"{names[0]}0", said)
             size = re.search(r'width="([0-9.]+)pt"', self.svg)
@@ -272,7 +341,9 @@ class Charts(Pictures):
         for bank in read_banks(str(defaults), read_outside(str(files[1]))):
             paid = sum(paid for _, _, paid in parts_owed(bank, read_payments(str(payments))))
             self.assertEqual(paid if bank.state != "sound" else paid + bank.equity, bank.estate, bank.name)
-        stress = self.text("s.txt", "stress", files, "--scenarios", self.file("s.toml", '[[scenario]]\nname = "as it is"\n'))
+        stress = self.text(
+            "s.txt", "stress", files, "--scenarios", self.file("s.toml", '[[scenario]]\nname = "as it is"\n')
+        )
         said = self.chart("clearing-stress-map", stress, "--banks", files[1])
         self.assertIn("1 of 3 banks defaults in at least one of 1 scenario", said)
         self.assertIn("66.7%", said)
@@ -295,7 +366,11 @@ class Charts(Pictures):
         stress = self.text("s.txt", "stress", TWELVE, "--scenarios", self.file("s.toml", '[[scenario]]\nname = "x"\n'))
         python = python_with("matplotlib")
         for name, text in (("clearing-shortfalls", defaults), ("clearing-stress-map", stress)):
-            for out, message in ((self.folder, "does not end with"), (self.folder / "x.doc", "does not end with"), (text, "d")):
+            for out, message in (
+                (self.folder, "does not end with"),
+                (self.folder / "x.doc", "does not end with"),
+                (text, "d"),
+            ):
                 before = text.read_bytes()
                 done = tool(name, text, out, python=python)
                 self.assertEqual((done.returncode, done.stdout, text.read_bytes()), (1, "", before))
@@ -305,7 +380,12 @@ class Charts(Pictures):
         done = tool("clearing-stress-map", defaults, self.folder / "x.svg", python=python)
         self.assertEqual(done.returncode, 1)
         self.assertIn("no scenario", done.stderr)
-        done = tool("clearing-stress-map", self.file("o.csv", "scenario,cash,paid,outside_paid,equity,defaults,fundamental\na,1,1,0,1,0,0\n"), self.folder / "x.svg", python=python)
+        done = tool(
+            "clearing-stress-map",
+            self.file("o.csv", "scenario,cash,paid,outside_paid,equity,defaults,fundamental\na,1,1,0,1,0,0\n"),
+            self.folder / "x.svg",
+            python=python,
+        )
         self.assertEqual(done.returncode, 1)
         self.assertIn("this is what `clearing outcomes` prints", done.stderr)
 
@@ -317,9 +397,12 @@ class WithoutMatplotlib(Pictures):
         (blocked / "__init__.py").write_text("raise ImportError('not here')\n")
         defaults = self.text("d.csv", "defaults", TWELVE)
         for name in ("clearing-shortfalls", "clearing-stress-map"):
-            done = subprocess.run([*run_of(name), str(defaults), str(self.folder / "x.svg")],
-                                  env={"PYTHONPATH": str(self.folder), "PATH": "/usr/bin:/bin", "PYTHONDONTWRITEBYTECODE": "1"},
-                                  capture_output=True, encoding="utf-8")
+            done = subprocess.run(
+                [*run_of(name), str(defaults), str(self.folder / "x.svg")],
+                env={"PYTHONPATH": str(self.folder), "PATH": "/usr/bin:/bin", "PYTHONDONTWRITEBYTECODE": "1"},
+                capture_output=True,
+                encoding="utf-8",
+            )
             self.assertEqual((done.returncode, done.stdout), (2, ""))
             self.assertIn("python3-matplotlib", done.stderr)
             self.assertIn(sys.executable, done.stderr)
@@ -331,8 +414,12 @@ class Script(Case):
         if not python:
             self.skipTest("no Python here has matplotlib")
         run = lambda *words: subprocess.run(  # noqa: E731
-            [ROOT / "tools/dev/pictures.sh", *words], capture_output=True, encoding="utf-8", stdin=subprocess.DEVNULL,
-            env={"CLEARING": PROGRAM, "PYTHON": python, "PATH": "/usr/bin:/bin", "PYTHONDONTWRITEBYTECODE": "1"})
+            [ROOT / "tools/dev/pictures.sh", *words],
+            capture_output=True,
+            encoding="utf-8",
+            stdin=subprocess.DEVNULL,
+            env={"CLEARING": PROGRAM, "PYTHON": python, "PATH": "/usr/bin:/bin", "PYTHONDONTWRITEBYTECODE": "1"},
+        )
         for words in (["--bogus"], ["a", "b"], [""]):
             done = run(*words)
             self.assertEqual((done.returncode, done.stdout), (2, ""), words)
@@ -343,7 +430,10 @@ class Script(Case):
         done = run(str(self.folder / "a folder"))
         self.assertEqual((done.returncode, done.stdout), (0, ""), done.stderr)
         for name in ("twelve-banks", "hub", "gridlock", "core"):
-            self.assertEqual((self.folder / "a folder" / f"{name}.svg").read_bytes(), (ROOT / f"docs/pictures/{name}.svg").read_bytes())
+            self.assertEqual(
+                (self.folder / "a folder" / f"{name}.svg").read_bytes(),
+                (ROOT / f"docs/pictures/{name}.svg").read_bytes(),
+            )
         self.assertTrue((self.folder / "a folder/core-shortfalls.svg").exists())
         self.assertTrue((self.folder / "a folder/twelve-banks-stress.svg").exists())
         self.assertFalse(shutil.which("dot", path="/nowhere"))

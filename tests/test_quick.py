@@ -1,4 +1,5 @@
-"""tools/dev/quick.sh checks the crates that are named and what stands on them: tried with a toolchain that only tells its calls."""
+"""tools/dev/quick.sh checks the crates that are named and what stands on them: tried with a toolchain that only tells
+its calls."""
 import os
 import shutil
 import subprocess
@@ -29,10 +30,19 @@ class Quick(Case):
 
     def run_with(self, *words, faulty="none", path=True):
         self.calls = self.file("calls", "")
-        environment = {**os.environ, "CALLS": str(self.calls), "FAULTY": faulty,
-                       "PATH": (f"{self.folder}/bin:" if path else "") + "/usr/bin:/bin"}
-        return subprocess.run([str(self.root / "tools/dev/quick.sh"), *words], env=environment, stdin=subprocess.DEVNULL,
-                              capture_output=True, encoding="utf-8")
+        environment = {
+            **os.environ,
+            "CALLS": str(self.calls),
+            "FAULTY": faulty,
+            "PATH": (f"{self.folder}/bin:" if path else "") + "/usr/bin:/bin",
+        }
+        return subprocess.run(
+            [str(self.root / "tools/dev/quick.sh"), *words],
+            env=environment,
+            stdin=subprocess.DEVNULL,
+            capture_output=True,
+            encoding="utf-8",
+        )
 
     def called(self):
         return self.calls.read_text().splitlines()
@@ -40,10 +50,16 @@ class Quick(Case):
     def test_a_crate_and_what_stands_on_it_are_checked_lowest_first(self):
         done = self.run_with("low")
         self.assertEqual(done.returncode, 0, done.stderr)
-        self.assertEqual(self.called(), ["low: check --jobs 1", "repository: must-fail low", "middle: check --jobs 1", "top: check --jobs 1"])
+        self.assertEqual(
+            self.called(),
+            ["low: check --jobs 1", "repository: must-fail low", "middle: check --jobs 1", "top: check --jobs 1"],
+        )
         self.assertRegex(done.stdout, r"\n4 steps passed, 0 failed in \d+ s\n$")
         self.run_with("middle", "beside")
-        self.assertEqual(sorted(self.called()), ["beside: check --jobs 1", "middle: check --jobs 1", "middle: test", "top: check --jobs 1"])
+        self.assertEqual(
+            sorted(self.called()),
+            ["beside: check --jobs 1", "middle: check --jobs 1", "middle: test", "top: check --jobs 1"],
+        )
 
     def test_edits_and_crates_above_can_be_left_out(self):
         self.run_with("--no-edits", "--no-above", "low")

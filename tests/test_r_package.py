@@ -37,7 +37,7 @@ def built() -> tempfile.TemporaryDirectory:
 
 def archive():
     """The archive that R makes of the package."""
-    found, = pathlib.Path(built().name).glob("clearing_*.tar.gz")
+    (found,) = pathlib.Path(built().name).glob("clearing_*.tar.gz")
     return found
 
 
@@ -53,7 +53,14 @@ ALONE = {"_R_CHECK_CRAN_INCOMING_": "false", "_R_CHECK_SYSTEM_CLOCK_": "false"}
 
 def ran(*words, folder=None, libraries="", **more):
     """A run of R that ends well, with what it printed."""
-    environment = {**os.environ, **ALONE, "LC_ALL": "C.UTF-8", "CLEARING": str(pathlib.Path(PROGRAM).resolve()), "R_LIBS": libraries, **more}
+    environment = {
+        **os.environ,
+        **ALONE,
+        "LC_ALL": "C.UTF-8",
+        "CLEARING": str(pathlib.Path(PROGRAM).resolve()),
+        "R_LIBS": libraries,
+        **more,
+    }
     done = subprocess.run(
         [str(word) for word in words],
         cwd=folder,
@@ -82,11 +89,16 @@ class Package(Case):
 
     @needs("qpdf")
     def test_it_passes_the_checks_of_r(self):
-        """Those of R's archive of packages, without a word: also of the examples, the tests and the vignette, which run."""
+        """Those of R's archive of packages, without a word: also of the examples, the tests and the vignette, which
+        run."""
         self.has_knitr()
         told = ran("R", "CMD", "check", "--as-cran", "--no-manual", archive(), folder=self.folder)
         self.assertRegex(told, r"(?m)^Status: OK$")
-        for line in ("Running \u2018tasks.R\u2019", "checking examples ... OK", "checking re-building of vignette outputs ... OK"):
+        for line in (
+            "Running \u2018tasks.R\u2019",
+            "checking examples ... OK",
+            "checking re-building of vignette outputs ... OK",
+        ):
             self.assertIn(line, told)
 
     def test_its_vignette_is_a_page_that_asks_nobody_for_more(self):
@@ -121,12 +133,16 @@ class Package(Case):
         )
         told = subprocess.check_output(["pdftotext", "-bbox", self.folder / "pictures.pdf", "-"], encoding="utf-8")
         pages = told.split("<page ")[1:]
-        titles = ["4 of 12 debtors leave 1,493,329 of 9,750,000 units unpaid",
-                  "4 of 12 banks are in default as things are; a cut of 891 fells the next"]
+        titles = [
+            "4 of 12 debtors leave 1,493,329 of 9,750,000 units unpaid",
+            "4 of 12 banks are in default as things are; a cut of 891 fells the next",
+        ]
         self.assertEqual(len(pages), len(titles))
         for page, title in zip(pages, titles):
             width = float(re.match('width="([0-9.]+)"', page)[1])
-            words = re.findall('<word xMin="([-0-9.]+)" yMin="[-0-9.]+" xMax="([-0-9.]+)" yMax="[-0-9.]+">(.*?)</word>', page)
+            words = re.findall(
+                '<word xMin="([-0-9.]+)" yMin="[-0-9.]+" xMax="([-0-9.]+)" yMax="[-0-9.]+">(.*?)</word>', page
+            )
             inside = [word for first, last, word in words if 0 <= float(first) and float(last) <= width]
             self.assertIn(title, " ".join(inside))
 
@@ -138,22 +154,29 @@ class Package(Case):
 
     def test_python_reads_the_case_that_r_writes(self):
         self.r(
-            "net <- bank_network(data.frame(name = c('A', 'B'), cash = c(7, 1)), data.frame(debtor = 'A', creditor = 'B', claim = 10))\n"
-            "labels <- data.frame(bank = 'A', short = 'A', full = 'Alpha, \"S.A.\"', group = '', country = 'DE')\n"
-            "case <- bank_case(net, title = 'Zwei Banken', as_of = '2026-03-31', test = 'solvency', currency = 'EUR', unit = '0.01',\n"
-            "                  labels = labels)\n"
-            "write_case(case, 'case')"
+            "net <- bank_network(data.frame(name = c('A', 'B'), cash = c(7, 1)), data.frame(debtor = 'A', creditor ="
+            " 'B', claim = 10))\nlabels <- data.frame(bank = 'A', short = 'A', full = 'Alpha, \"S.A.\"', group = '',"
+            " country = 'DE')\ncase <- bank_case(net, title = 'Zwei Banken', as_of = '2026-03-31', test = 'solvency',"
+            " currency = 'EUR', unit = '0.01',\n                  labels = labels)\nwrite_case(case, 'case')"
         )
         case = BankCase.read(self.folder / "case")
         self.assertEqual(case.notes, ())
-        self.assertEqual((case.title, str(case.as_of), case.test, case.currency), ("Zwei Banken", "2026-03-31", "solvency", "EUR"))
+        self.assertEqual(
+            (case.title, str(case.as_of), case.test, case.currency), ("Zwei Banken", "2026-03-31", "solvency", "EUR")
+        )
         self.assertEqual((str(case.amount(1234)), case.labels["A"].full), ("12.34", 'Alpha, "S.A."'))
         self.assertEqual(case.network.clear().total, Network({"A": 7, "B": 1}, {("A", "B"): 10}).clear().total)
 
     def test_r_reads_the_case_that_python_writes_and_keeps_what_it_does_not_know(self):
         network = Network({"A": 7, "B": 1}, {("A", "B"): 10})
-        case = BankCase(network, title="Über \\ \u0001 \U0001f600", description="Two\nlines.", unit="0.01", currency="EUR",
-                        contributors=[{"title": "Ada"}])
+        case = BankCase(
+            network,
+            title="Über \\ \u0001 \U0001f600",
+            description="Two\nlines.",
+            unit="0.01",
+            currency="EUR",
+            contributors=[{"title": "Ada"}],
+        )
         case.others["licenses"] = [{"name": "none"}]
         case.write(self.folder / "python")
         printed = self.r(
@@ -164,7 +187,9 @@ class Package(Case):
         )
         self.assertEqual(printed.split(), ["0.01", "EUR", "Ada", "7"])
         again = BankCase.read(self.folder / "r")
-        self.assertEqual((again.title, again.description, again.author, again.notes), (case.title, case.description, "Ada", ()))
+        self.assertEqual(
+            (again.title, again.description, again.author, again.notes), (case.title, case.description, "Ada", ())
+        )
         self.assertEqual(again.others["licenses"], [{"name": "none"}])
 
     def test_both_keep_the_sheets_of_a_case_and_tell_the_same_of_it(self):

@@ -1,4 +1,5 @@
-"""tests/system/races.sh judges each run by others: it finds nothing wrong with the program, and something with one that lies."""
+"""tests/system/races.sh judges each run by others: it finds nothing wrong with the program, and something with one
+that lies."""
 import os
 import re
 import subprocess
@@ -25,8 +26,19 @@ exec "{program}" "$@"
 @needs("cc")
 class Races(Case):
     def races(self, program, runs):
-        environment = {**os.environ, "CLEARING": str(program), "PYTHONDONTWRITEBYTECODE": "1", "TMPDIR": str(self.folder)}
-        done = subprocess.run([str(ROOT / "tests/system/races.sh"), str(runs), "1"], env=environment, stdin=subprocess.DEVNULL, capture_output=True, encoding="utf-8")
+        environment = {
+            **os.environ,
+            "CLEARING": str(program),
+            "PYTHONDONTWRITEBYTECODE": "1",
+            "TMPDIR": str(self.folder),
+        }
+        done = subprocess.run(
+            [str(ROOT / "tests/system/races.sh"), str(runs), "1"],
+            env=environment,
+            stdin=subprocess.DEVNULL,
+            capture_output=True,
+            encoding="utf-8",
+        )
         return done.returncode, done.stdout.splitlines()
 
     def test_runs_that_are_shaken_are_right(self):

@@ -1,4 +1,5 @@
-"""The README: its command prints what stands there, its files are the example's, and its tables have each task and each rule."""
+"""The README: its command prints what stands there, its files are the example's, and its tables have each task and
+each rule."""
 import re
 import shlex
 import subprocess
@@ -15,10 +16,14 @@ BLOCKS = [text for language, text in ALL_BLOCKS if not language]
 
 class Readme(unittest.TestCase):
     def test_its_first_command_prints_what_it_says(self):
-        """The first look and the proved program have the same words, and what is there is what the proved one prints."""
+        """The first look and the proved program have the same words; what is there is what the proved one prints."""
         words = shlex.split(BLOCKS[0])
-        self.assertEqual([words[0], BLOCKS[2]], ["./first-look", shlex.join(["./clearing", *words[1:]]) + "\n.ci/run\n"])
-        done = subprocess.run([PROGRAM, *words[1:]], cwd=ROOT, stdin=subprocess.DEVNULL, capture_output=True, encoding="utf-8")
+        self.assertEqual(
+            [words[0], BLOCKS[2]], ["./first-look", shlex.join(["./clearing", *words[1:]]) + "\n.ci/run\n"]
+        )
+        done = subprocess.run(
+            [PROGRAM, *words[1:]], cwd=ROOT, stdin=subprocess.DEVNULL, capture_output=True, encoding="utf-8"
+        )
         self.assertEqual((done.returncode, done.stdout), (0, BLOCKS[1]))
 
     def test_its_table_has_each_task_of_the_program(self):
@@ -53,7 +58,10 @@ class Readme(unittest.TestCase):
 
     def test_the_headline_is_a_click_away(self):
         """The clause and the row that carry the theorem stand in the files that the README links to."""
-        clause, row = re.search(r"\[`clear_top::run`\]\((\S+)\)", TEXT)[1], re.search(r"\[`Settles`\]\((\S+)\)", TEXT)[1]
+        clause, row = (
+            re.search(r"\[`clear_top::run`\]\((\S+)\)", TEXT)[1],
+            re.search(r"\[`Settles`\]\((\S+)\)", TEXT)[1],
+        )
         self.assertRegex((ROOT / clause).read_text(encoding="utf-8"), r"pub fn run[\s\S]*ensures ends \{ RunEnds")
         self.assertIn("pub record Settles", (ROOT / row).read_text(encoding="utf-8"))
 

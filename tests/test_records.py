@@ -35,14 +35,32 @@ class Records(Case):
         self.program = os.path.realpath(PROGRAM)
 
     def git(self, *words):
-        done = subprocess.run(["git", "-c", "user.name=a", "-c", "user.email=a@b", *words], cwd=self.root, check=True, capture_output=True,
-                              encoding="utf-8", env={**os.environ, "GIT_CONFIG_GLOBAL": os.devnull})
+        done = subprocess.run(
+            ["git", "-c", "user.name=a", "-c", "user.email=a@b", *words],
+            cwd=self.root,
+            check=True,
+            capture_output=True,
+            encoding="utf-8",
+            env={**os.environ, "GIT_CONFIG_GLOBAL": os.devnull},
+        )
         return done.stdout.strip()
 
     def started(self, script, *words, program=None):
-        environment = {**os.environ, "CLEARING": program or self.program, "TMPDIR": str(self.folder), "PYTHONDONTWRITEBYTECODE": "1"}
-        return subprocess.Popen([str(self.root / "tests/system" / script), *words], env=environment, stdin=subprocess.DEVNULL,
-                                stdout=subprocess.PIPE, stderr=subprocess.STDOUT, encoding="utf-8", start_new_session=True)
+        environment = {
+            **os.environ,
+            "CLEARING": program or self.program,
+            "TMPDIR": str(self.folder),
+            "PYTHONDONTWRITEBYTECODE": "1",
+        }
+        return subprocess.Popen(
+            [str(self.root / "tests/system" / script), *words],
+            env=environment,
+            stdin=subprocess.DEVNULL,
+            stdout=subprocess.PIPE,
+            stderr=subprocess.STDOUT,
+            encoding="utf-8",
+            start_new_session=True,
+        )
 
     def ran(self, script, *words, program=None):
         """The status and the last line of a script."""
@@ -58,15 +76,29 @@ class Records(Case):
     def test_each_script_that_came_to_its_end_has_a_line(self):
         digest = hashlib.sha256(pathlib.Path(self.program).read_bytes()).hexdigest()
         expected = []
-        for script, *words in (["compare.sh", "2", "7"], ["compare.sh", "--wide", "1", "12"], ["races.sh", "12", "1"],
-                               ["edge.sh", "words"], ["allocations.sh", "check", "gen"],
-                               ["same_build.sh", digest, self.program]):
+        for script, *words in (
+            ["compare.sh", "2", "7"],
+            ["compare.sh", "--wide", "1", "12"],
+            ["races.sh", "12", "1"],
+            ["edge.sh", "words"],
+            ["allocations.sh", "check", "gen"],
+            ["same_build.sh", digest, self.program],
+        ):
             with self.subTest(script=script):
                 status, last = self.ran(script, "--record", *words)
                 self.assertEqual(status, 0, last)
                 cases = re.search("([0-9]+) (cases|runs)", last)
-                expected.append([time.strftime("%Y-%m-%d", time.gmtime()), self.git("rev-parse", "HEAD"), digest, script, " ".join(words),
-                                 cases[1] if cases else "1", "0"])
+                expected.append(
+                    [
+                        time.strftime("%Y-%m-%d", time.gmtime()),
+                        self.git("rev-parse", "HEAD"),
+                        digest,
+                        script,
+                        " ".join(words),
+                        cases[1] if cases else "1",
+                        "0",
+                    ]
+                )
                 self.assertEqual(self.rows(), expected)
 
     def test_without_being_asked_nothing_is_written(self):
@@ -90,10 +122,12 @@ class Records(Case):
         """A network that owes more than the standard limits allow: by the wide ones a payment is other, or it is
         refused; and by the standard ones it is accepted, or refused at another row."""
         true, row = '"$0.true" "$@"', r"s/row \([0-9]*\)/row 1\1/"
-        for lie in (f"*wide*) exec {true} | sed '2s/[0-9]*$/77777/'",
-                    '*wide*) exec "$0.true" check --banks banks.csv --debts debts.csv',
-                    f"*wide*) ;; *) exec {true} --limits wide",
-                    f"*wide*) ;; *) {true} 2>told; s=$?; sed '{row}' told >&2; exit $s"):
+        for lie in (
+            f"*wide*) exec {true} | sed '2s/[0-9]*$/77777/'",
+            '*wide*) exec "$0.true" check --banks banks.csv --debts debts.csv',
+            f"*wide*) ;; *) exec {true} --limits wide",
+            f"*wide*) ;; *) {true} 2>told; s=$?; sed '{row}' told >&2; exit $s",
+        ):
             with self.subTest(lie=lie):
                 program = self.file("liar", f'#!/bin/sh\ncase "$*" in {lie} ;; esac\nexec "$0.true" "$@"\n')
                 program.chmod(0o755)
@@ -104,9 +138,12 @@ class Records(Case):
     def test_the_quicker_ways_of_the_model_are_held_against_the_plain_ones(self):
         path = self.root / "tests/system/quick.py"
         text = path.read_text(encoding="utf-8")
-        for right, wrong in (("units in (0, self.sum)", "units in (0, self.sum - 1)"),
-                             ("has * keep // 1000", "has * keep // 1001"), ("rounds += 1", "rounds += 2"),
-                             ("if sum(before(level)) <= units else", "if sum(before(level)) < units + 2 else")):
+        for right, wrong in (
+            ("units in (0, self.sum)", "units in (0, self.sum - 1)"),
+            ("has * keep // 1000", "has * keep // 1001"),
+            ("rounds += 1", "rounds += 2"),
+            ("if sum(before(level)) <= units else", "if sum(before(level)) < units + 2 else"),
+        ):
             with self.subTest(wrong=wrong):
                 self.assertIn(right, text)
                 path.write_text(text.replace(right, wrong), encoding="utf-8")
@@ -115,8 +152,11 @@ class Records(Case):
 
     def test_what_was_interrupted_has_no_line(self):
         # Each is interrupted once it has begun to try.
-        for script, number, begun in (("compare.sh", "100000", "network/got"), ("races.sh", "100000", "network/journal.csv"),
-                                      ("allocations.sh", "200", "count")):
+        for script, number, begun in (
+            ("compare.sh", "100000", "network/got"),
+            ("races.sh", "100000", "network/journal.csv"),
+            ("allocations.sh", "200", "count"),
+        ):
             process = self.started(script, "--record", number)
             while not any(self.folder.glob(f"tmp.*/{begun}")) and process.poll() is None:
                 time.sleep(0.1)

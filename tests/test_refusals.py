@@ -1,6 +1,6 @@
-"""Each refusal of the program, by file, kind and row, as docs/FORMATS.md gives it: the status, the whole message, and no output.
-Each fault of a record stands in an early row and in late ones, and behind few good records and many, since a row's number and what
-stands before it must change nothing else."""
+"""Each refusal of the program, by file, kind and row, as docs/FORMATS.md gives it: the status, the whole message, and
+no output. Each fault of a record stands in an early row and in late ones, and behind few good records and many, since
+a row's number and what stands before it must change nothing else."""
 import concurrent.futures
 import re
 import subprocess
@@ -25,15 +25,21 @@ MANY_DEBTS = [*FEW_DEBTS, *(f"G{i},G{(i + c) % 16},{c},{i}" for c in range(1, 8)
 # A thousand good records of each file.
 GOOD = {
     "banks": [bank.encode() for bank in [*FEW_BANKS, *(f"G{i},{i},webster" for i in range(996))]],
-    "debts": [*(debt.encode() for debt in FEW_DEBTS),
-              *(f"G{i % 16},G{(i + 1 + i // 16 % 15) % 16},{1 + i // 240},{i % 50}".encode() for i in range(998))],
+    "debts": [
+        *(debt.encode() for debt in FEW_DEBTS),
+        *(f"G{i % 16},G{(i + 1 + i // 16 % 15) % 16},{1 + i // 240},{i % 50}".encode() for i in range(998)),
+    ],
     "journal": [b"1,A,B,1,1"] * 1000,
 }
 
-NAMES = {"name": ["x" * 65, "é" * 33, "😀" * 17, "x" * 300, b"\xff", b"x" * 64 + b"\xc3", "a\x07", '"a,b"', '"a""b"'],
-         "unknown bank": ["Z", "a", "x" * 63, "y" * 64, "é" * 32, "😁" * 16]}
-NUMERALS = {"number": ["", "x", "-1", "+1", "1.5", "1e3", "0" * 21, "9" * 30, "9" * 300],
-            "limit": ["9" * 20, str(2**64), "18446744073709551615"]}
+NAMES = {
+    "name": ["x" * 65, "é" * 33, "😀" * 17, "x" * 300, b"\xff", b"x" * 64 + b"\xc3", "a\x07", '"a,b"', '"a""b"'],
+    "unknown bank": ["Z", "a", "x" * 63, "y" * 64, "é" * 32, "😁" * 16],
+}
+NUMERALS = {
+    "number": ["", "x", "-1", "+1", "1.5", "1e3", "0" * 21, "9" * 30, "9" * 300],
+    "limit": ["9" * 20, str(2**64), "18446744073709551615"],
+}
 
 
 def joined(*parts):
@@ -43,14 +49,32 @@ def joined(*parts):
 def bank_faults(second):
     """The kind of a fault, and a record that has it, below banks A, B and one with a long name."""
     more = ",0" if second else ""
-    yield from (("fields", text) for text in ["C,1", "C", "C,1,order,0,0", "C,1,order" if second else "C,1,order,0", "C" + ",x" * 70, "A,x", "," * 70 + "x"])
+    yield from (
+        ("fields", text)
+        for text in [
+            "C,1",
+            "C",
+            "C,1,order,0,0",
+            "C,1,order" if second else "C,1,order,0",
+            "C" + ",x" * 70,
+            "A,x",
+            "," * 70 + "x",
+        ]
+    )
     yield from (("name", joined(name, ",1,order", more)) for name in ["", *NAMES["name"]])
     yield from (("double bank", f"{name},1,order{more}") for name in ["A", " A ", '"B"', "😀" * 16, "n" * 64])
     yield from (("number", f"C,{text},order{more}") for text in NUMERALS["number"])
     yield from (("limit", f"C,{text},order{more}") for text in ["1000000000001", *NUMERALS["limit"]])
-    yield from (("rule", f"C,1,{text}{more}") for text in ["", "Order", "proportional", "order order", "x" * 300, "losse"])
+    yield from (
+        ("rule", f"C,1,{text}{more}") for text in ["", "Order", "proportional", "order order", "x" * 300, "losse"]
+    )
     # The first check that fails is told.
-    yield from [("double bank", f"A,x,x{more}"), ("number", f"C,x,x{more}"), ("limit", f"C,1000000000001,x{more}"), ("name", f"{'x' * 65},x,x{more}")]
+    yield from [
+        ("double bank", f"A,x,x{more}"),
+        ("number", f"C,x,x{more}"),
+        ("limit", f"C,1000000000001,x{more}"),
+        ("name", f"{'x' * 65},x,x{more}"),
+    ]
     if second:
         yield from (("number", f"C,1,order,{text}") for text in NUMERALS["number"])
         yield from (("limit", f"C,1,order,{text}") for text in ["100000000001", *NUMERALS["limit"]])
@@ -68,11 +92,20 @@ def debt_faults():
     yield from (("number", f"A,B,2,{text}") for text in NUMERALS["number"])
     yield from (("limit", f"A,B,2,{text}") for text in ["1000001", *NUMERALS["limit"]])
     yield from (("double debt", text) for text in ["A,B,1,1", " A , B , 1 , 0 ", f"{'n' * 64},A,9,5"])
-    yield from [("unknown bank", "Z,Z,0,x"), ("self debt", "A,A,0,x"), ("class", "A,B,0,x"), ("number", "A,B,1,x"), ("limit", "A,B,1,1000001")]
+    yield from [
+        ("unknown bank", "Z,Z,0,x"),
+        ("self debt", "A,A,0,x"),
+        ("class", "A,B,0,x"),
+        ("number", "A,B,1,x"),
+        ("limit", "A,B,1,1000001"),
+    ]
 
 
 def raise_faults():
-    yield from (("fields", text) for text in ["2,A,B,1", "2", "2,A,B,1,1,1", "2" + ",x" * 70, "rounds,x", "rounds,1,1", "Rounds,1"])
+    yield from (
+        ("fields", text)
+        for text in ["2,A,B,1", "2", "2,A,B,1,1,1", "2" + ",x" * 70, "rounds,x", "rounds,1,1", "Rounds,1"]
+    )
     yield from (("number", f"{text},A,B,1,1") for text in NUMERALS["number"])
     yield from (("limit", f"{text},A,B,1,1") for text in ["4294967296", *NUMERALS["limit"]])
     for kind, names in NAMES.items():
@@ -80,18 +113,45 @@ def raise_faults():
         yield from ((kind, joined("2,A,", name, ",1,1")) for name in names)
     yield from [("name", "2,,A,1,1"), ("name", "2,A,,1,1")]
     yield from (("class", f"2,A,B,{text},1") for text in ["", "0", "10", "x", "01", "1" * 300])
-    yield from (("unknown debt", text) for text in ["2,A,B,2,1", "2,B,A,1,1", "2,A,A,1,1", f"2,{'n' * 64},{'😀' * 16},1,1"])
+    yield from (
+        ("unknown debt", text) for text in ["2,A,B,2,1", "2,B,A,1,1", "2,A,A,1,1", f"2,{'n' * 64},{'😀' * 16},1,1"]
+    )
     yield from (("number", f"2,A,B,1,{text}") for text in NUMERALS["number"])
     yield from (("limit", f"2,A,B,1,{text}") for text in ["1000001", *NUMERALS["limit"]])
-    yield from [("number", "x,Z,Z,0,x"), ("unknown bank", "2,Z,Z,0,x"), ("class", "2,A,B,0,x"), ("unknown debt", "2,A,B,2,x")]
+    yield from [
+        ("number", "x,Z,Z,0,x"),
+        ("unknown bank", "2,Z,Z,0,x"),
+        ("class", "2,A,B,0,x"),
+        ("unknown debt", "2,A,B,2,x"),
+    ]
 
 
-HEADERS = {"banks": "name,cash,rule", "debts": "debtor,creditor,class,claim", "journal": "stamp,debtor,creditor,class,to"}
+HEADERS = {
+    "banks": "name,cash,rule",
+    "debts": "debtor,creditor,class,claim",
+    "journal": "stamp,debtor,creditor,class,to",
+}
 
 
 def header_faults(words):
-    yield from ["", "\n\n", words[:-1], words + "x", words.upper(), words + ",x", words + ",x" * 70, words.rpartition(",")[0], "x", ",", ",\n" + words,
-                ",".join(reversed(words.split(","))), words.replace(",", ";"), "x" * 200_000, b"\xff\xfe", words.replace(",", ",,")]
+    yield from [
+        "",
+        "\n\n",
+        words[:-1],
+        words + "x",
+        words.upper(),
+        words + ",x",
+        words + ",x" * 70,
+        words.rpartition(",")[0],
+        "x",
+        ",",
+        ",\n" + words,
+        ",".join(reversed(words.split(","))),
+        words.replace(",", ";"),
+        "x" * 200_000,
+        b"\xff\xfe",
+        words.replace(",", ",,"),
+    ]
 
 
 def one(name, *rest):
@@ -102,41 +162,106 @@ def scenario_faults():
     """The kind of a fault, and the text of a scenario that has it."""
     loss = lambda bank, amount: f'[[scenario.loss]]\nbank = "{bank}"\namount = {amount}'
     shapes = [
-        "[[scenario]]\n", "[[scenario]]\ncut = 1\n", one("1"), one('["a"]'), one('"a"', "cuts = 1"), one('"a"', 'cut = "1"'), one('"a"', "cut = 1.0"),
-        one('"a"', "loss = 1"), one('"a"', "loss = [1]"), one('"a"', "[[scenario.loss]]"), one('"a"', '[[scenario.loss]]\nbank = "A"'),
-        one('"a"', "[[scenario.loss]]\namount = 1"), one('"a"', loss("A", 1), "more = 1"), one('"a"', loss("A", '"1"')), one('"a"', loss("A", "1.0")),
-        one('"a"', "[scenario.loss]"), one('"a"', loss("A", 1), loss("B", 1), "[[scenario.loss]]\nbank = 1\namount = 1"), one('""', "x = 1"),
+        "[[scenario]]\n",
+        "[[scenario]]\ncut = 1\n",
+        one("1"),
+        one('["a"]'),
+        one('"a"', "cuts = 1"),
+        one('"a"', 'cut = "1"'),
+        one('"a"', "cut = 1.0"),
+        one('"a"', "loss = 1"),
+        one('"a"', "loss = [1]"),
+        one('"a"', "[[scenario.loss]]"),
+        one('"a"', '[[scenario.loss]]\nbank = "A"'),
+        one('"a"', "[[scenario.loss]]\namount = 1"),
+        one('"a"', loss("A", 1), "more = 1"),
+        one('"a"', loss("A", '"1"')),
+        one('"a"', loss("A", "1.0")),
+        one('"a"', "[scenario.loss]"),
+        one('"a"', loss("A", 1), loss("B", 1), "[[scenario.loss]]\nbank = 1\namount = 1"),
+        one('""', "x = 1"),
     ]
     # Keys with dots, and a loss of three keys; another shape is told before the values in it.
-    shapes += ["[[scenario]]\nname.first = 'a'\n", one('""', "cut = 0.5"), one('""', "[scenario.loss]"),
-               one('""', 'loss = [{ bank = "X", amount = 1, a = 1 }]'), one('""', 'loss = [{ bank = "X", amount = 1.0 }]')]
+    shapes += [
+        "[[scenario]]\nname.first = 'a'\n",
+        one('""', "cut = 0.5"),
+        one('""', "[scenario.loss]"),
+        one('""', 'loss = [{ bank = "X", amount = 1, a = 1 }]'),
+        one('""', 'loss = [{ bank = "X", amount = 1.0 }]'),
+    ]
     yield from (("shape", text) for text in shapes)
-    yield from (("name", one(f'"{name}"')) for name in ["", "x" * 65, "x" * 100, "é" * 33, "😀" * 17, "x" * 5_000, "a,b", "a\\u0007", 'a\\"b'])
+    yield from (
+        ("name", one(f'"{name}"'))
+        for name in ["", "x" * 65, "x" * 100, "é" * 33, "😀" * 17, "x" * 5_000, "a,b", "a\\u0007", 'a\\"b']
+    )
     yield from (("limit", one('"a"', f"cut = {cut}")) for cut in [1001, -1, 2**63 - 1])
     for before in ([], [loss("B", 2)], [loss("B", 2), loss("n" * 64, 10**12)]):
-        yield from (("unknown bank", one('"a"', *before, loss(name, 1))) for name in ["Z", "", "y" * 64, "x" * 65, "é" * 32, " A", "a,b"])
+        yield from (
+            ("unknown bank", one('"a"', *before, loss(name, 1)))
+            for name in ["Z", "", "y" * 64, "x" * 65, "é" * 32, " A", "a,b"]
+        )
         yield from (("limit", one('"a"', *before, loss("A", amount))) for amount in [-1, 10**12 + 1, 2**63 - 1])
-    yield from (("double bank", one('"a"', *losses)) for losses in
-                [[loss("A", 1)] * 2, [loss("A", 1), loss("B", 1), loss("A", -1)], [loss("n" * 64, 1)] * 3, [loss("B", 10**12), loss("B", 0)]])
-    yield from [("name", one('"a\\tb"', "cut = -1")), ("name", one('""', "cut = 1001")), ("limit", one('"a"', "cut = 1001", loss("Z", -1))), ("unknown bank", one('"a"', loss("Z", -1)))]
+    yield from (
+        ("double bank", one('"a"', *losses))
+        for losses in [
+            [loss("A", 1)] * 2,
+            [loss("A", 1), loss("B", 1), loss("A", -1)],
+            [loss("n" * 64, 1)] * 3,
+            [loss("B", 10**12), loss("B", 0)],
+        ]
+    )
+    yield from [
+        ("name", one('"a\\tb"', "cut = -1")),
+        ("name", one('""', "cut = 1001")),
+        ("limit", one('"a"', "cut = 1001", loss("Z", -1))),
+        ("unknown bank", one('"a"', loss("Z", -1))),
+    ]
 
 
 def documents():
     """The kind of a fault of a whole document, and the document."""
-    for text in ["scenario", "=", "[[scenario]]\nname = \"a", "[scenario]\n[scenario]", "a = 1\na = 1", one('"a"', "cut = 01")]:
-        yield from [("toml", text), ("toml", "# " + "x" * 100 + "\n" + text), ("toml", "# " + "x" * 200_000 + "\n" + text)]
+    for text in [
+        "scenario",
+        "=",
+        '[[scenario]]\nname = "a',
+        "[scenario]\n[scenario]",
+        "a = 1\na = 1",
+        one('"a"', "cut = 01"),
+    ]:
+        yield from [
+            ("toml", text),
+            ("toml", "# " + "x" * 100 + "\n" + text),
+            ("toml", "# " + "x" * 200_000 + "\n" + text),
+        ]
     for text in [b"\xff", b'[[scenario]]\nname = "\xc3"', b"# \xe2\x82"]:
-        yield from [("toml", text), ("toml", b"# " + b"x" * 100 + b"\n" + text), ("toml", b"# " + b"x" * 200_000 + b"\n" + text)]
+        yield from [
+            ("toml", text),
+            ("toml", b"# " + b"x" * 100 + b"\n" + text),
+            ("toml", b"# " + b"x" * 200_000 + b"\n" + text),
+        ]
     for text in ["scenario = []\nscenario = []", 'scenario = "a" "b"']:
         yield "toml", text
-    for text in ["scenario.name = 'a'", "[scenario]\nname = 'a'", "a = 1", "scenario = 1", "[scenario]", "scenarios = []", one('"a"') + "[x]", one('"a"') * 20 + "[other]", 'scenario = "' + "x" * 200_000 + '"']:
+    for text in [
+        "scenario.name = 'a'",
+        "[scenario]\nname = 'a'",
+        "a = 1",
+        "scenario = 1",
+        "[scenario]",
+        "scenarios = []",
+        one('"a"') + "[x]",
+        one('"a"') * 20 + "[other]",
+        'scenario = "' + "x" * 200_000 + '"',
+    ]:
         yield "shape", text
 
 
 class Refusals(Case):
     def setUp(self):
         super().setUp()
-        self.names = {"scenarios": self.file("scenarios.toml", one('"a"')), "journal": self.file("journal.csv", HEADERS["journal"] + "\n")}
+        self.names = {
+            "scenarios": self.file("scenarios.toml", one('"a"')),
+            "journal": self.file("journal.csv", HEADERS["journal"] + "\n"),
+        }
         self.use(FEW_BANKS, FEW_DEBTS)
 
     def use(self, banks, debts):
@@ -155,7 +280,10 @@ class Refusals(Case):
         done = subprocess.run([PROGRAM.encode(), *words], stdin=subprocess.DEVNULL, capture_output=True)
         told = done.returncode, done.stderr.decode(errors="replace"), done.stdout.decode(errors="replace")
         if told != (status, message, output):
-            self.fail(f"{[word[:80] for word in words]}: {told[0], told[1][:200], told[2][:80]} in place of {status, message[:200]}")
+            self.fail(
+                f"{[word[:80] for word in words]}: {told[0], told[1][:200], told[2][:80]} in place of"
+                f" {status, message[:200]}"
+            )
 
     def words(self, file, path, task=None):
         """The words of a run of which a file has another name."""
@@ -165,7 +293,11 @@ class Refusals(Case):
         return [task, *(word for name in shown for word in (f"--{name}", names[name]))]
 
     def fault(self, file, content, row, kind, task=None):
-        self.ends(self.words(file, self.file("tried", content), task), 4, f"clearing: {file} row {row}: {kind} ({NUMBERS[kind]})\n")
+        self.ends(
+            self.words(file, self.file("tried", content), task),
+            4,
+            f"clearing: {file} row {row}: {kind} ({NUMBERS[kind]})\n",
+        )
 
     def check_records(self, file, header, before, faults, blanks=BLANKS):
         faults = list(faults)
@@ -175,21 +307,37 @@ class Refusals(Case):
             for kind, text in chosen:
                 with self.subTest(file=file, kind=kind, text=str(text)[:60], blanks=count, before=len(before)):
                     blank = "," * header.count(",") + "\n"
-                    content = joined(header, "\n", blank * (count - count // 2), *(f"{text}\n" for text in before), "\n", blank * (count // 2), text, "\n", "x,x\n")
+                    content = joined(
+                        header,
+                        "\n",
+                        blank * (count - count // 2),
+                        *(f"{text}\n" for text in before),
+                        "\n",
+                        blank * (count // 2),
+                        text,
+                        "\n",
+                        "x,x\n",
+                    )
                     self.fault(file, content, count + len(before) + 1, kind)
 
     def test_banks(self):
         for before, blanks in ((FEW_BANKS, BLANKS), (MANY_BANKS, [0])):
             self.check_records("banks", "name,cash,rule", before, bank_faults(False), blanks)
-            self.check_records("banks", "name,cash,rule,outside", [f"{bank},5" for bank in before], bank_faults(True), blanks)
+            self.check_records(
+                "banks", "name,cash,rule,outside", [f"{bank},5" for bank in before], bank_faults(True), blanks
+            )
 
     def test_debts(self):
         for many in self.on_both():
-            self.check_records("debts", HEADERS["debts"], MANY_DEBTS if many else FEW_DEBTS, debt_faults(), [0] if many else BLANKS)
+            self.check_records(
+                "debts", HEADERS["debts"], MANY_DEBTS if many else FEW_DEBTS, debt_faults(), [0] if many else BLANKS
+            )
 
     def test_raises(self):
         for many in self.on_both():
-            self.check_records("journal", HEADERS["journal"], ["1,A,B,1,1"], raise_faults(), [0] if many else [0, 2, 3, 1_100, 60_500])
+            self.check_records(
+                "journal", HEADERS["journal"], ["1,A,B,1,1"], raise_faults(), [0] if many else [0, 2, 3, 1_100, 60_500]
+            )
         # No row but the last that is not blank may close a journal.
         for count in (0, 1, 2, 5, 50, 5_000, 70_000):
             raises = f"{HEADERS['journal']}\n" + "1,A,B,1,1\n" * count
@@ -218,7 +366,7 @@ class Refusals(Case):
 
     def told_behind(self, file: str, count: int, record: str | bytes) -> tuple[int, str, str]:
         """What a run comes to that finds this record in a file behind so many good rows."""
-        rows = {"banks": GOOD["banks"][:max(count, 20)], "debts": GOOD["debts"][:count if file == "debts" else 2]}
+        rows = {"banks": GOOD["banks"][: max(count, 20)], "debts": GOOD["debts"][: count if file == "debts" else 2]}
         if file == "journal":
             rows[file] = GOOD[file][:count]
         rows[file] = [*rows[file][:count], joined(record)]
@@ -226,8 +374,9 @@ class Refusals(Case):
         for name, lines in rows.items():
             path = self.file(f"{name}-{file}-{count}", b"\n".join([HEADERS[name].encode(), *lines]))
             words += [f"--{name}", str(path)]
-        done = subprocess.run([PROGRAM, *words], stdin=subprocess.DEVNULL, capture_output=True, encoding="utf-8",
-                              errors="replace")
+        done = subprocess.run(
+            [PROGRAM, *words], stdin=subprocess.DEVNULL, capture_output=True, encoding="utf-8", errors="replace"
+        )
         return done.returncode, done.stderr, done.stdout
 
     def test_headers(self):
@@ -275,11 +424,18 @@ class Refusals(Case):
         with self.subTest("total"):
             lines = debts.splitlines()[:-1]
             self.fault("debts", "\n".join([*lines, "N0,N9,9,501"]) + "\n", 20_000, "total")
-            self.fault("debts", "debtor,creditor,class,claim\n" + "".join(f"N0,N{i},1,1000000\n" for i in range(1, 11)) + "N1,N0,1,1\n", 11, "total")
+            self.fault(
+                "debts",
+                "debtor,creditor,class,claim\n" + "".join(f"N0,N{i},1,1000000\n" for i in range(1, 11)) + "N1,N0,1,1\n",
+                11,
+                "total",
+            )
 
     def test_sizes(self):
         for file in ("banks", "debts", "scenarios"):
-            for task in ("check", "clear", "costs", "cost-bounds", "impact") if file != "scenarios" else ("stress", "outcomes"):
+            for task in (
+                ("check", "clear", "costs", "cost-bounds", "impact") if file != "scenarios" else ("stress", "outcomes")
+            ):
                 with self.subTest(file=file, task=task):
                     more = ["--keep", "1"] if task in ("costs", "cost-bounds") else []
                     words = self.words(file, self.file("long", b"x" * (LARGEST + 1)), task) + more
@@ -301,35 +457,120 @@ class Refusals(Case):
             for name in [*unknown, "y" * 65, "z" * 300, "😀" * 17, "a,b", "n" * 65]:
                 for more in ([], ["--workers", 64, "--sweeps", 1000]):
                     with self.subTest(name=name[:70], more=more, many=many):
-                        words = ["rescue", "--banks", self.names["banks"], "--debts", self.names["debts"], "--bank", name, *more]
+                        words = [
+                            "rescue",
+                            "--banks",
+                            self.names["banks"],
+                            "--debts",
+                            self.names["debts"],
+                            "--bank",
+                            name,
+                            *more,
+                        ]
                         # What is no name of a bank is no word of the option.
-                        self.ends(words, *(4, "clearing: words row 0: unknown bank (8)\n") if name in unknown else USAGE)
+                        self.ends(
+                            words, *(4, "clearing: words row 0: unknown bank (8)\n") if name in unknown else USAGE
+                        )
 
     def test_words(self):
         banks, debts = ["--banks", "b"], ["--debts", "d"]
-        requires = {"check": [banks, debts], "clear": [banks, debts], "central": [banks, debts], "defaults": [banks, debts], "convert": [banks, debts],
-                    "stress": [banks, debts, ["--scenarios", "s"]], "replay": [banks, debts, ["--journal", "j"]], "bounds": [banks, debts],
-                    "gen": [["--seed", "1"], ["--size", "1"], ["--tries", "1"]], "rescue": [banks, debts, ["--bank", "A"]],
-                    "compress": [banks, debts], "costs": [banks, debts, ["--keep", "1"]], "cost-bounds": [banks, debts, ["--keep", "1"]],
-                    "breaking": [banks, debts], "impact": [banks, debts], "rescues": [banks, debts], "outcomes": [banks, debts, ["--scenarios", "s"]]}
-        self.assertEqual(sorted(requires), sorted(re.findall(r"^\| `([a-z-]+)` \| [^|]*\| `--[^|]*\| [^|]*\|$", FORMATS, re.M)))
+        requires = {
+            "check": [banks, debts],
+            "clear": [banks, debts],
+            "central": [banks, debts],
+            "defaults": [banks, debts],
+            "convert": [banks, debts],
+            "stress": [banks, debts, ["--scenarios", "s"]],
+            "replay": [banks, debts, ["--journal", "j"]],
+            "bounds": [banks, debts],
+            "gen": [["--seed", "1"], ["--size", "1"], ["--tries", "1"]],
+            "rescue": [banks, debts, ["--bank", "A"]],
+            "compress": [banks, debts],
+            "costs": [banks, debts, ["--keep", "1"]],
+            "cost-bounds": [banks, debts, ["--keep", "1"]],
+            "breaking": [banks, debts],
+            "impact": [banks, debts],
+            "rescues": [banks, debts],
+            "outcomes": [banks, debts, ["--scenarios", "s"]],
+        }
+        self.assertEqual(
+            sorted(requires), sorted(re.findall(r"^\| `([a-z-]+)` \| [^|]*\| `--[^|]*\| [^|]*\|$", FORMATS, re.M))
+        )
         workers = ["clear", "defaults", "stress", "gen", "bounds", "rescue"]
-        one_more = [["--scenarios", "s"], ["--journal", "j"], ["--bank", "A"], ["--seed", "1"], ["--size", "1"], ["--tries", "1"], ["--keep", "1"], ["--show", "both"],
-                    ["--workers", "1"], ["--sweeps", "1"], banks, debts]
-        lists = [[], [""], ["x"], ["Clear"], ["clears"], ["x" * 300], ["é" * 100], ["--"], ["-"], ["--help"], ["-h"], ["--version"], ["help"], ["--banks"], ["--x"],
-                 ["--", "--banks"], ["--workers", "1"], ["-x", *sum([banks, debts], [])]]
+        one_more = [
+            ["--scenarios", "s"],
+            ["--journal", "j"],
+            ["--bank", "A"],
+            ["--seed", "1"],
+            ["--size", "1"],
+            ["--tries", "1"],
+            ["--keep", "1"],
+            ["--show", "both"],
+            ["--workers", "1"],
+            ["--sweeps", "1"],
+            banks,
+            debts,
+        ]
+        lists = [
+            [],
+            [""],
+            ["x"],
+            ["Clear"],
+            ["clears"],
+            ["x" * 300],
+            ["é" * 100],
+            ["--"],
+            ["-"],
+            ["--help"],
+            ["-h"],
+            ["--version"],
+            ["help"],
+            ["--banks"],
+            ["--x"],
+            ["--", "--banks"],
+            ["--workers", "1"],
+            ["-x", *sum([banks, debts], [])],
+        ]
         for task, options in requires.items():
             words = sum(options, [])
-            lists += [[task], [task, task, *words], [*words], [task, *words, "--", "x"], ["--", task, *words], [task, *words, "--help"]]
+            lists += [
+                [task],
+                [task, task, *words],
+                [*words],
+                [task, *words, "--", "x"],
+                ["--", task, *words],
+                [task, *words, "--help"],
+            ]
             lists.append(["x", *words])
-            lists += [[task, *sum(options[:i] + options[i + 1:], [])] for i in range(len(options))]
+            lists += [[task, *sum(options[:i] + options[i + 1 :], [])] for i in range(len(options))]
             lists += [[task, *words, *option] for option in options]
-            lists += [[task, *words, *option] for option in one_more if option not in options and not (
-                option[0] in ("--workers", "--sweeps") and task in workers or option[0] == "--show" and task == "clear")]
-            lists += [[task, *words, "--x"], [task, *words, "--x=1"], [task, *words, "-x"], [task, *words, "x"], [task, *words, "--workers"]]
+            lists += [
+                [task, *words, *option]
+                for option in one_more
+                if option not in options
+                and not (
+                    option[0] in ("--workers", "--sweeps")
+                    and task in workers
+                    or option[0] == "--show"
+                    and task == "clear"
+                )
+            ]
+            lists += [
+                [task, *words, "--x"],
+                [task, *words, "--x=1"],
+                [task, *words, "-x"],
+                [task, *words, "x"],
+                [task, *words, "--workers"],
+            ]
             # Long lists of words.
-            lists += [[task, *words, *["x"] * n] for n in (1, 2, 3, 8, 30, 500)] + [[task, *words, *["--banks", "b"] * n] for n in (2, 6, 100)]
-            lists += [[task, *words, "--workers", "65"], [task, *words, "--sweeps", "0"], [task, *words, "--workers=0", "--sweeps=1"]]
+            lists += [[task, *words, *["x"] * n] for n in (1, 2, 3, 8, 30, 500)] + [
+                [task, *words, *["--banks", "b"] * n] for n in (2, 6, 100)
+            ]
+            lists += [
+                [task, *words, "--workers", "65"],
+                [task, *words, "--sweeps", "0"],
+                [task, *words, "--workers=0", "--sweeps=1"],
+            ]
         limits = {"workers": (1, 64), "sweeps": (1, 1000)}
         for name, (low, high) in limits.items():
             for value in (low - 1, high + 1, -1, "", "x", "1.0", "0" * 21, "9" * 20, "9" * 300):
@@ -338,16 +579,38 @@ class Refusals(Case):
             values = {"seed": 1, "size": 1, "tries": 1}
             for value in (high + 1, -1, "", "x", "1.0", "0" * 21, "9" * 20, *([0] if name == "size" else [])):
                 lists.append(["gen", *(f"--{key}={value if key == name else kept}" for key, kept in values.items())])
-        lists += [[task, *banks, *debts, f"--keep={value}"] for task in ("costs", "cost-bounds") for value in (1001, -1, "", "x", "9" * 20)]
+        lists += [
+            [task, *banks, *debts, f"--keep={value}"]
+            for task in ("costs", "cost-bounds")
+            for value in (1001, -1, "", "x", "9" * 20)
+        ]
         lists += [["clear", *banks, *debts, f"--show={value}"] for value in ("", "x", "Both", "x" * 300)]
-        lists += [["clear", "--banks", name, *debts] for name in ("", "-b", "-")] + [["rescue", *banks, *debts, "--bank", name] for name in ("", "-A")]
+        lists += [["clear", "--banks", name, *debts] for name in ("", "-b", "-")] + [
+            ["rescue", *banks, *debts, "--bank", name] for name in ("", "-A")
+        ]
         # A value that is no value, options with one dash, another name for a task, a task that takes no such option.
-        lists += [["clear", *banks, *debts, ""], ["clear", "--banks", *debts], ["clear", "--banks", "--", "b", *debts], ["clear", "-banks", "b", *debts],
-                  ["clear", *banks, "--debts="], ["clear", *banks, "--debts", "-"], ["clear", *banks, *debts, "--workers", " 1"], ["-V"],
-                  ["clear", "--banks=a", "--debts=d", "--banks=b"], ["clear", *banks, *debts, "--threads=2"], ["cost_bounds", *banks, *debts, "--keep=5"],
-                  ["rescue", *banks, *debts, "--bank=a,b"], ["gen", "--seed=1", "--size=0", "--tries=0"]]
+        lists += [
+            ["clear", *banks, *debts, ""],
+            ["clear", "--banks", *debts],
+            ["clear", "--banks", "--", "b", *debts],
+            ["clear", "-banks", "b", *debts],
+            ["clear", *banks, "--debts="],
+            ["clear", *banks, "--debts", "-"],
+            ["clear", *banks, *debts, "--workers", " 1"],
+            ["-V"],
+            ["clear", "--banks=a", "--debts=d", "--banks=b"],
+            ["clear", *banks, *debts, "--threads=2"],
+            ["cost_bounds", *banks, *debts, "--keep=5"],
+            ["rescue", *banks, *debts, "--bank=a,b"],
+            ["gen", "--seed=1", "--size=0", "--tries=0"],
+        ]
         # Words that are no text.
-        lists += [[b"\xff"], ["clear", *banks, "--debts", b"\xff"], ["clear", *banks, *debts, b"\xc3"], [b"x" * 100 + b"\xff", *["x"] * 20]]
+        lists += [
+            [b"\xff"],
+            ["clear", *banks, "--debts", b"\xff"],
+            ["clear", *banks, *debts, b"\xc3"],
+            [b"x" * 100 + b"\xff", *["x"] * 20],
+        ]
         for words in lists:
             with self.subTest(words=[word[:60] for word in words][:16]):
                 self.ends(words, *USAGE)
@@ -356,19 +619,47 @@ class Refusals(Case):
         folder = self.file("folder")
         folder.mkdir()
         self.file("loop").symlink_to(self.file("loop"))
-        missing = [self.file("missing"), folder / "missing", self.file("m" * 21), self.file("m" * 200), self.file("m" * 255), self.file("m" * 300), folder,
-                   self.names["banks"] / "x", self.file("loop"), "/" + "x/" * 3_000, "nowhere/" + "é" * 100, "/dev/null/x"]
+        missing = [
+            self.file("missing"),
+            folder / "missing",
+            self.file("m" * 21),
+            self.file("m" * 200),
+            self.file("m" * 255),
+            self.file("m" * 300),
+            folder,
+            self.names["banks"] / "x",
+            self.file("loop"),
+            "/" + "x/" * 3_000,
+            "nowhere/" + "é" * 100,
+            "/dev/null/x",
+        ]
         for file in ("banks", "debts", "scenarios", "journal"):
             for path in missing:
                 with self.subTest(file=file, path=str(path)[:100]):
                     self.ends(self.words(file, path), 3, f"clearing: cannot read {path}\n")
-        for task in ("check", "clear", "central", "defaults", "convert", "bounds", "compress", "breaking", "impact", "rescues"):
+        for task in (
+            "check",
+            "clear",
+            "central",
+            "defaults",
+            "convert",
+            "bounds",
+            "compress",
+            "breaking",
+            "impact",
+            "rescues",
+        ):
             for path in (missing[0], folder):
                 with self.subTest(task=task, path=path):
-                    self.ends([task, "--banks", self.names["banks"], "--debts", path], 3, f"clearing: cannot read {path}\n")
+                    self.ends(
+                        [task, "--banks", self.names["banks"], "--debts", path], 3, f"clearing: cannot read {path}\n"
+                    )
         # Each file is read and its size looked at before the next one is, and the contents come after.
         long, faulty, gone = self.file("long", b"x" * (LARGEST + 1)), self.file("faulty", "x\n"), missing[0]
-        replay = lambda *names: ["replay", *(word for pair in zip(("--banks", "--debts", "--journal"), names) for word in pair)]
+        replay = lambda *names: [
+            "replay",
+            *(word for pair in zip(("--banks", "--debts", "--journal"), names) for word in pair),
+        ]
         good = self.names["banks"], self.names["debts"]
         self.ends(replay(gone, missing[1], missing[2]), 3, f"clearing: cannot read {gone}\n")
         self.ends(replay(faulty, gone, missing[1]), 3, f"clearing: cannot read {gone}\n")
@@ -382,7 +673,9 @@ class Refusals(Case):
     def test_output_that_cannot_be_written(self):
         for words in (self.words("banks", self.names["banks"]), ["gen", "--seed", 1, "--size", 9, "--tries", 9]):
             with open("/dev/full", "wb") as full:
-                done = subprocess.run([PROGRAM, *map(str, words)], stdin=subprocess.DEVNULL, stdout=full, stderr=subprocess.PIPE)
+                done = subprocess.run(
+                    [PROGRAM, *map(str, words)], stdin=subprocess.DEVNULL, stdout=full, stderr=subprocess.PIPE
+                )
             self.assertEqual((done.returncode, done.stderr), (5, b"clearing: cannot write the output\n"))
 
     def test_verdicts_at_early_and_late_entries(self):
@@ -393,26 +686,49 @@ class Refusals(Case):
         """Each verdict behind so many raises, on two banks and others without debts."""
         names = ["n" * 64, "B"]
         more = "".join(f"G{i},{i},adams\n" for i in range(others))
-        files = ["--banks", self.file("two.csv", f"name,cash,rule\n{names[0]},900000,order\nB,0,order\n{more}"),
-                 "--debts", self.file("one.csv", f"debtor,creditor,class,claim\n{names[0]},B,9,1000000\n")]
+        files = [
+            "--banks",
+            self.file("two.csv", f"name,cash,rule\n{names[0]},900000,order\nB,0,order\n{more}"),
+            "--debts",
+            self.file("one.csv", f"debtor,creditor,class,claim\n{names[0]},B,9,1000000\n"),
+        ]
         message = "clearing: the journal is not a lawful complete history\n"
         for count in counts:
             lawful = [f"{i},{names[0]},B,9,{i}" for i in range(1, count + 1)]
-            cases = [([f"{count},{names[0]},B,9,{to}"], f"unlawful,{count + 1},{count},900000\n") for to in (0, count, 900_001, 1_000_000)]
+            cases = [
+                ([f"{count},{names[0]},B,9,{to}"], f"unlawful,{count + 1},{count},900000\n")
+                for to in (0, count, 900_001, 1_000_000)
+            ]
             cases.append(([], f"unfinished,{names[0]}\n"))
             if count:
                 cases.append(([f"{count - 1},{names[0]},B,9,900000"], f"falls,{count + 1},{count},{count - 1}\n"))
-                cases.append(([f"4294967295,{names[0]},B,9,{count + 1}", f"0,{names[0]},B,9,900000"], f"falls,{count + 2},4294967295,0\n"))
+                cases.append(
+                    (
+                        [f"4294967295,{names[0]},B,9,{count + 1}", f"0,{names[0]},B,9,900000"],
+                        f"falls,{count + 2},4294967295,0\n",
+                    )
+                )
             for more, verdict in cases:
                 with self.subTest(count=count, verdict=verdict, others=others):
                     path = self.file("tried.csv", "\n".join([HEADERS["journal"], *lawful, *more]) + "\n")
                     self.ends(["replay", *files, "--journal", path], 7, message, verdict)
             with self.subTest(count=count, verdict="lawful", others=others):
-                path = self.file("tried.csv", "\n".join([HEADERS["journal"], *lawful, f"{count},{names[0]},B,9,900000", f"rounds,{count}"]) + "\n")
-                self.ends(["replay", *files, "--journal", path], 0, "", f"lawful,{count + 1}\n\ndebtor,creditor,class,claim,paid\n{names[0]},B,9,1000000,900000\n")
+                path = self.file(
+                    "tried.csv",
+                    "\n".join([HEADERS["journal"], *lawful, f"{count},{names[0]},B,9,900000", f"rounds,{count}"])
+                    + "\n",
+                )
+                self.ends(
+                    ["replay", *files, "--journal", path],
+                    0,
+                    "",
+                    f"lawful,{count + 1}\n\ndebtor,creditor,class,claim,paid\n{names[0]},B,9,1000000,900000\n",
+                )
 
     def test_each_kind_is_tried(self):
-        tried = {kind for kind, _ in [*bank_faults(True), *debt_faults(), *raise_faults(), *scenario_faults(), *documents()]}
+        tried = {
+            kind for kind, _ in [*bank_faults(True), *debt_faults(), *raise_faults(), *scenario_faults(), *documents()]
+        }
         self.assertEqual(tried | {"header", "too many", "total", "file size"}, set(NUMBERS))
 
 

@@ -1,4 +1,5 @@
-"""tools/dev/release.sh: what is in the archive and the package, what they do where they are installed, and what is no release."""
+"""tools/dev/release.sh: what is in the archive and the package, what they do where they are installed, and what is no
+release."""
 import os
 import pathlib
 import re
@@ -17,12 +18,16 @@ import build  # noqa: E402
 LACKS = [name for name in ("pandoc", "dpkg-deb", "git", "Rscript") if not shutil.which(name)]
 if not LACKS and subprocess.run(["Rscript", "-e", "library(knitr)"], capture_output=True).returncode:
     LACKS.append("R's package knitr")
-TASKS = sorted("""check clear central defaults stress outcomes replay bounds rescue rescues breaking impact compress costs cost-bounds convert
-    gen""".split())
+TASKS = sorted(
+    """check clear central defaults stress outcomes replay bounds rescue rescues breaking impact compress costs
+    cost-bounds convert gen""".split()
+)
 
 
 def ran(*words, **more):
-    return subprocess.run([str(word) for word in words], stdin=subprocess.DEVNULL, capture_output=True, encoding="utf-8", **more)
+    return subprocess.run(
+        [str(word) for word in words], stdin=subprocess.DEVNULL, capture_output=True, encoding="utf-8", **more
+    )
 
 
 class Version(unittest.TestCase):
@@ -51,11 +56,19 @@ class Completions(Case):
         self.file("banks.csv", "name,cash,rule\nAster,1,order\n")
 
         def offered(line):
-            done = ran("fish", "--no-config", "-c", f"source {ROOT}/tools/clearing.fish; complete -C '{line}'", cwd=self.folder,
-                       env={**os.environ, "HOME": str(self.folder)})
+            done = ran(
+                "fish",
+                "--no-config",
+                "-c",
+                f"source {ROOT}/tools/clearing.fish; complete -C '{line}'",
+                cwd=self.folder,
+                env={**os.environ, "HOME": str(self.folder)},
+            )
             return [word.split("\t")[0] for word in done.stdout.splitlines()]
 
-        self.assertEqual(sorted(offered("clearing c")), ["central", "check", "clear", "compress", "convert", "cost-bounds", "costs"])
+        self.assertEqual(
+            sorted(offered("clearing c")), ["central", "check", "clear", "compress", "convert", "cost-bounds", "costs"]
+        )
         self.assertEqual(offered("clearing clear --show b"), ["both"])
         self.assertEqual(sorted(offered("clearing costs --")), ["--banks", "--debts", "--keep", "--limits"])
         self.assertEqual(sorted(offered("clearing cost-bounds --")), ["--banks", "--debts", "--keep", "--limits"])
@@ -70,7 +83,8 @@ class Completions(Case):
         # A terminal of its own, in which a tab is pressed.
         script = f"""
             zmodload zsh/zpty; cd {self.folder}; zpty z zsh -f -i
-            zpty -w z "PS1=; fpath=({self.folder} \\$fpath); autoload -U compinit; compinit -u -d {self.folder}/dump; echo REA''DY"
+            zpty -w z "PS1=; fpath=({self.folder} \\$fpath); autoload -U compinit"
+            zpty -w z "compinit -u -d {self.folder}/dump; echo REA''DY"
             zpty -r -m z begun '*READY*'; zpty -w -n z $'clearing comp\\t'
             for try in {{1..50}}; do
                 sleep 0.1; while zpty -r -t z more; do out+=$more; done
@@ -121,8 +135,16 @@ class Release(Case):
         done = cls.release("--gate", cls.log, folder)
         full = build.full_name()
         wheel = f"{full}-{build.tag_of((cls.checkout / 'crates/clear_main/out/clear_main').read_bytes())}.whl"
-        names = ["clearing-7.8.9-x86_64.tar.gz", "clearing_7.8.9_amd64.deb", wheel, f"{full}-py3-none-any.whl", f"{full}.tar.gz",
-                 "clearing_1.0.0.tar.gz", "clearing-7.8.9.RECORD", "SHA256SUMS"]
+        names = [
+            "clearing-7.8.9-x86_64.tar.gz",
+            "clearing_7.8.9_amd64.deb",
+            wheel,
+            f"{full}-py3-none-any.whl",
+            f"{full}.tar.gz",
+            "clearing_1.0.0.tar.gz",
+            "clearing-7.8.9.RECORD",
+            "SHA256SUMS",
+        ]
         wanted = (0, "", [f"{folder}/{name}" for name in names])
         if (done.returncode, done.stderr, done.stdout.split()) != wanted:
             raise AssertionError(done)
@@ -140,18 +162,31 @@ class Release(Case):
         prefix.mkdir()
         self.assertEqual(ran("tar", "-xzf", archive, "--strip-components=1", "-C", prefix).returncode, 0)
         self.clears(prefix / "bin/clearing")
-        for name in ("man/man1/clearing.1", "bash-completion/completions/clearing", "zsh/vendor-completions/_clearing",
-                     "fish/vendor_completions.d/clearing.fish", "doc/clearing/guide.html", "doc/clearing/examples/chain/banks.csv"):
+        for name in (
+            "man/man1/clearing.1",
+            "bash-completion/completions/clearing",
+            "zsh/vendor-completions/_clearing",
+            "fish/vendor_completions.d/clearing.fish",
+            "doc/clearing/guide.html",
+            "doc/clearing/examples/chain/banks.csv",
+        ):
             self.assertTrue((prefix / "share" / name).is_file(), name)
         record = (prefix / "share/doc/clearing/RECORD").read_text()
         self.assertEqual(self.one[-2].read_text(), record)
         head = ran("git", "-C", self.checkout, "rev-parse", "HEAD").stdout.strip()
-        for line in ("clearing 7.8.9", f"commit {head}", "gate 12 passed, 0 failed; 7 passed, 0 failed", "It was built and proved from this commit."):
+        for line in (
+            "clearing 7.8.9",
+            f"commit {head}",
+            "gate 12 passed, 0 failed; 7 passed, 0 failed",
+            "It was built and proved from this commit.",
+        ):
             self.assertIn(line + "\n", record)
         for folder, words in (("must-fail", "edits that the gate refused"), ("edits", "edits beside the gate")):
             number = len(list((ROOT / "crates").glob(f"*/{folder}/*.edit")))
             self.assertIn(f"{words} {number}\n", record)
-        self.assertEqual([path.name for path in prefix.rglob("*") if path.stem in ("release", "quick", "clearing-release")], [])
+        self.assertEqual(
+            [path.name for path in prefix.rglob("*") if path.stem in ("release", "quick", "clearing-release")], []
+        )
 
     def test_its_record_is_compared_with_a_build(self):
         """By a toolchain that says which it is: what is the same, and what differs."""
@@ -159,14 +194,29 @@ class Release(Case):
         (self.folder / "rt").chmod(0o755)
         record = self.one[-2].read_text()
         told = re.search("(?m)^toolchain (.*)$", record)[1]
-        done = ran(self.checkout / "tools/dev/check_record.sh", self.one[-2], env={**os.environ, "PATH": f"{self.folder}:/usr/bin:/bin"})
+        done = ran(
+            self.checkout / "tools/dev/check_record.sh",
+            self.one[-2],
+            env={**os.environ, "PATH": f"{self.folder}:/usr/bin:/bin"},
+        )
         self.assertEqual((done.returncode, done.stdout.count("same: ")), (1, 2), (done.stdout, done.stderr))
         self.assertIn(f"differs: toolchain is {told} in the record, and here other logic 7\n", done.stdout)
         (self.folder / "rt").write_text(f"#!/bin/sh\necho '{told}'\n")
-        done = ran(self.checkout / "tools/dev/check_record.sh", self.one[-2], env={**os.environ, "PATH": f"{self.folder}:/usr/bin:/bin"})
+        done = ran(
+            self.checkout / "tools/dev/check_record.sh",
+            self.one[-2],
+            env={**os.environ, "PATH": f"{self.folder}:/usr/bin:/bin"},
+        )
         self.assertEqual((done.returncode, done.stdout.count("same: ")), (0, 3), (done.stdout, done.stderr))
         wrong = self.file("RECORD", record.replace("program ", "program 0"))
-        self.assertEqual(ran(self.checkout / "tools/dev/check_record.sh", wrong, env={**os.environ, "PATH": f"{self.folder}:/usr/bin:/bin"}).returncode, 1)
+        self.assertEqual(
+            ran(
+                self.checkout / "tools/dev/check_record.sh",
+                wrong,
+                env={**os.environ, "PATH": f"{self.folder}:/usr/bin:/bin"},
+            ).returncode,
+            1,
+        )
 
     def test_links_between_its_pages_lead_somewhere(self):
         archive = self.one[0]
@@ -188,7 +238,11 @@ class Release(Case):
     def test_the_same_checkout_makes_the_same_bytes(self):
         first = [path.read_bytes() for path in self.one]
         # Also by a user with another mask, whose checkout nobody else may read.
-        modes = {path: path.stat().st_mode & 0o777 for path in self.checkout.rglob("*") if path.is_file() and ".git" not in path.parts}
+        modes = {
+            path: path.stat().st_mode & 0o777
+            for path in self.checkout.rglob("*")
+            if path.is_file() and ".git" not in path.parts
+        }
         self.addCleanup(os.umask, os.umask(0o000))
         try:
             for path, mode in modes.items():
@@ -212,7 +266,14 @@ class Release(Case):
             (root / "var/lib/dpkg" / name).mkdir(parents=True)
         (root / "var/lib/dpkg/status").write_text("")
         # The root has no C library, on which the package depends.
-        dpkg = ["dpkg", f"--root={root}", "--force-not-root", "--force-depends", "--force-bad-path", f"--log={self.folder}/log"]
+        dpkg = [
+            "dpkg",
+            f"--root={root}",
+            "--force-not-root",
+            "--force-depends",
+            "--force-bad-path",
+            f"--log={self.folder}/log",
+        ]
         done = ran(*dpkg, "--install", package)
         self.assertEqual(done.returncode, 0, done.stderr)
         self.clears(root / "usr/bin/clearing")
@@ -220,7 +281,15 @@ class Release(Case):
         self.assertEqual(ran("dpkg-deb", "--field", package, "Depends").stdout.split(" (")[0], "libc6")
         # What Python keeps of the tools, where it may write, goes with them.
         shared = root / "usr/share/clearing"
-        self.assertEqual(ran("python3", shared / "bin/clearing-from-list", "--help", env={**os.environ, "PYTHONDONTWRITEBYTECODE": ""}).returncode, 0)
+        self.assertEqual(
+            ran(
+                "python3",
+                shared / "bin/clearing-from-list",
+                "--help",
+                env={**os.environ, "PYTHONDONTWRITEBYTECODE": ""},
+            ).returncode,
+            0,
+        )
         self.assertTrue((shared / "python/src/clearing_tools/imports/__pycache__").is_dir())
         self.assertEqual(ran(*dpkg, "--force-script-chrootless", "--remove", "clearing").returncode, 0)
         self.assertEqual([path for path in (root / "usr").rglob("*") if not path.is_dir()], [])
@@ -237,13 +306,16 @@ class Release(Case):
         done = ran("md5sum", "--check", "--strict", "--quiet", "DEBIAN/md5sums", cwd=self.folder / "tree")
         self.assertEqual((done.returncode, done.stdout), (0, ""), done.stderr)
         sums = (self.folder / "tree/DEBIAN/md5sums").read_text().splitlines()
-        files = [path.relative_to(self.folder / "tree").as_posix() for path in (self.folder / "tree/usr").rglob("*")
-                 if path.is_file() and not path.is_symlink()]
+        files = [
+            path.relative_to(self.folder / "tree").as_posix()
+            for path in (self.folder / "tree/usr").rglob("*")
+            if path.is_file() and not path.is_symlink()
+        ]
         self.assertEqual(sorted(line.split("  ", 1)[1] for line in sums), sorted(files))
 
     def test_the_package_for_r_is_one_as_r_makes_them(self):
         """R's checks take it as it is, and what is installed has the vignette."""
-        archive, = [path for path in self.one if re.fullmatch(r"clearing_[0-9.]+\.tar\.gz", path.name)]
+        (archive,) = [path for path in self.one if re.fullmatch(r"clearing_[0-9.]+\.tar\.gz", path.name)]
         done = ran("R", "CMD", "INSTALL", f"--library={self.folder}", archive)
         self.assertEqual(done.returncode, 0, done.stdout + done.stderr)
         self.assertTrue((self.folder / "clearing/R/clearing.rdb").is_file())
@@ -252,7 +324,9 @@ class Release(Case):
         self.assertIn("8256671", (self.folder / "clearing/doc/twelve-banks.html").read_text(encoding="utf-8"))
         # What runs the program is checked in test_r_package.
         words = ["--no-manual", "--no-examples", "--no-tests", "--ignore-vignettes"]
-        done = ran("R", "CMD", "check", *words, archive, cwd=self.folder, env={**os.environ, **ALONE, "LC_ALL": "C.UTF-8"})
+        done = ran(
+            "R", "CMD", "check", *words, archive, cwd=self.folder, env={**os.environ, **ALONE, "LC_ALL": "C.UTF-8"}
+        )
         self.assertRegex(done.stdout, "(?m)^Status: OK$")
 
     def refused(self, message, *words, status=1, **more):
@@ -264,7 +338,9 @@ class Release(Case):
     def test_what_is_no_release_is_refused(self):
         self.refused("the gate's record is wanted")
         self.refused("the last line", "--gate", self.file("bad.log", "12 passed, 1 failed\n"))
-        self.refused("a part of the gate failed", "--gate", self.file("bad.log", "12 passed, 1 failed\n3 passed, 0 failed\n"))
+        self.refused(
+            "a part of the gate failed", "--gate", self.file("bad.log", "12 passed, 1 failed\n3 passed, 0 failed\n")
+        )
         self.refused("CLEARING is for drafts", "--gate", self.log, CLEARING="/bin/true")
         self.refused("no option", "--fast", status=2)
         source = self.checkout / "crates/stress/src/lib.rt"
@@ -284,8 +360,15 @@ class Release(Case):
         self.addCleanup((self.checkout / "more").unlink)
         done = self.release("--draft", self.folder / "draft")
         self.assertEqual((done.returncode, done.stderr), (0, ""))
-        record = ran("tar", "-xzOf", self.folder / "draft/clearing-7.8.9-x86_64.tar.gz", "clearing-7.8.9/share/doc/clearing/RECORD").stdout
-        self.assertIn("This is a draft: nothing here says that the program was proved. The checkout had changes", record)
+        record = ran(
+            "tar",
+            "-xzOf",
+            self.folder / "draft/clearing-7.8.9-x86_64.tar.gz",
+            "clearing-7.8.9/share/doc/clearing/RECORD",
+        ).stdout
+        self.assertIn(
+            "This is a draft: nothing here says that the program was proved. The checkout had changes", record
+        )
         self.assertNotIn("built and proved", record)
 
 

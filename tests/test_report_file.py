@@ -22,15 +22,23 @@ from reports import PYTHON, TWELVE, Reader, Report, files_of, is_running, odd_ne
 
 class TheFile(Report):
     def test_nothing_in_it_is_loaded_and_only_its_own_style_and_script_may_run(self):
-        read = Reader(self.page(files_of(TWELVE), "--scenarios", TWELVE / "scenarios.toml", "--d3", self.file("d3.js", "0;")))
-        policy = next(a["content"] for tag, a in read.elements if tag == "meta" and a.get("http-equiv") == "Content-Security-Policy")
+        read = Reader(
+            self.page(files_of(TWELVE), "--scenarios", TWELVE / "scenarios.toml", "--d3", self.file("d3.js", "0;"))
+        )
+        policy = next(
+            a["content"]
+            for tag, a in read.elements
+            if tag == "meta" and a.get("http-equiv") == "Content-Security-Policy"
+        )
         allowed = dict(part.split(" ", 1) for part in policy.split("; "))
         self.assertEqual(allowed["default-src"], "'none'")
         self.assertEqual(allowed["base-uri"], "'none'")
         self.assertNotIn("unsafe", policy)
         for tag, rule in (("style", "style-src"), ("script", "script-src")):
             texts = [text for kind, pairs, text in read.raw if kind == tag and pairs.get("type") != "application/json"]
-            sums = ["'sha256-" + base64.b64encode(hashlib.sha256(text.encode()).digest()).decode() + "'" for text in texts]
+            sums = [
+                "'sha256-" + base64.b64encode(hashlib.sha256(text.encode()).digest()).decode() + "'" for text in texts
+            ]
             self.assertEqual(sums, allowed.get(rule, "").split(), rule)
         for tag, pairs in read.elements:
             self.assertNotIn(tag, ("link", "img", "iframe", "object", "embed", "base", "form"))
@@ -60,18 +68,28 @@ class TheFile(Report):
         """In sentences, tables, pictures and files, names of banks and of scenarios, as a page and in what was changed:
         a code is never shown as a code again."""
         names = ["A\u202eA", "B\u200b", "\ufeffC", "D\u2028"]
-        banks = self.file("banks.csv", "name,cash,rule\n" + "".join(f"{name},{at},order\n" for at, name in enumerate(names)))
-        debts = self.file("debts.csv", "debtor,creditor,class,claim\n" + "".join(f"{a},{b},1,9\n" for a, b in zip(names, names[1:])))
+        banks = self.file(
+            "banks.csv", "name,cash,rule\n" + "".join(f"{name},{at},order\n" for at, name in enumerate(names))
+        )
+        debts = self.file(
+            "debts.csv", "debtor,creditor,class,claim\n" + "".join(f"{a},{b},1,9\n" for a, b in zip(names, names[1:]))
+        )
         losses = "".join(f'[[scenario]]\nname = "lost\u202e{at}"\ncut = 500\n' for at in range(2))
         changed = self.file("changes.txt", "A<U+202E>A loses 3 of its cash.\n")
-        text = html.unescape(self.page(["--banks", banks, "--debts", debts], "--scenarios", self.file("s.toml", losses), "--changes", changed))
+        text = html.unescape(
+            self.page(
+                ["--banks", banks, "--debts", debts], "--scenarios", self.file("s.toml", losses), "--changes", changed
+            )
+        )
         for name in map(shown, names):
             self.assertGreater(text.count(name), 10, name)
         twice = text.find("<U+003C>")
         self.assertEqual(twice, -1, text[max(0, twice - 200) : twice + 100])
 
     def test_full_names_stand_in_place_of_the_names(self):
-        labels = self.file("l.csv", "code,name\nDunmore,<u>Dunmore</u> & Co\nKemi,\u05d1\u05e0\u05e7\u202e\nNobody,nowhere\n")
+        labels = self.file(
+            "l.csv", "code,name\nDunmore,<u>Dunmore</u> & Co\nKemi,\u05d1\u05e0\u05e7\u202e\nNobody,nowhere\n"
+        )
         text = self.page(files_of(TWELVE), "--labels", labels, "--d3", self.file("d3.js", "0;"))
         read = Reader(text)
         rows = {pairs["data-bank"]: cells[0] for pairs, cells in read.rows if "data-bank" in pairs}
@@ -86,17 +104,40 @@ class TheFile(Report):
         # The name of the files is told once, among the evidence.
         self.assertIn("<code>Dunmore</code> is &lt;u&gt;Dunmore&lt;/u&gt; &amp; Co", text)
         data = json.loads(next(text for _, pairs, text in read.raw if pairs.get("type") == "application/json"))
-        self.assertEqual(data["full"], {"3": "<u>Dunmore</u> & Co", str(data["names"].index("Kemi")): "\u05d1\u05e0\u05e7<U+202E>"})
+        self.assertEqual(
+            data["full"], {"3": "<u>Dunmore</u> & Co", str(data["names"].index("Kemi")): "\u05d1\u05e0\u05e7<U+202E>"}
+        )
         # Its file is among the evidence.
         self.assertIn("l.csv", text)
-        self.page(files_of(TWELVE), "--labels", self.file("l.csv", "name\n"), status=1, message="the first row is not code,name")
+        self.page(
+            files_of(TWELVE),
+            "--labels",
+            self.file("l.csv", "name\n"),
+            status=1,
+            message="the first row is not code,name",
+        )
 
     def test_the_evidence_can_be_made_again(self):
         for name in ("banks.csv", "debts.csv", "scenarios.toml"):
             shutil.copy(TWELVE / name, self.folder / name)
         kept = self.folder / "kept"
-        done = tool("clearing-report", "--banks", "banks.csv", "--debts", "debts.csv", "--scenarios", "scenarios.toml", "--default-keeps", "800",
-                    "--out", "r.html", "--keep", "kept", cwd=self.folder, python=PYTHON)
+        done = tool(
+            "clearing-report",
+            "--banks",
+            "banks.csv",
+            "--debts",
+            "debts.csv",
+            "--scenarios",
+            "scenarios.toml",
+            "--default-keeps",
+            "800",
+            "--out",
+            "r.html",
+            "--keep",
+            "kept",
+            cwd=self.folder,
+            python=PYTHON,
+        )
         self.assertEqual((done.returncode, done.stderr), (0, "") if os.path.exists(D3) else (0, done.stderr))
         rows = [cells for _, cells in Reader((self.folder / "r.html").read_text(encoding="utf-8")).rows]
         inputs = {cells[1]: cells for cells in rows if len(cells) == 4 and re.fullmatch("[0-9a-f]{64}", cells[3])}
@@ -106,12 +147,22 @@ class TheFile(Report):
         commands = [cells for cells in rows if len(cells) == 3 and cells[0].startswith("clearing ")]
         self.assertEqual(len(commands), 16)
         made = [cells[1] for cells in inputs.values() if cells[0] == "made for a question"]
-        self.assertEqual(sorted(made), ["banks-order.csv", "banks-rescued.csv", "banks-unit.csv", "banks-webster.csv", "debts-reversed.csv",
-                                        "debts-unit.csv", "rescues.toml"])
+        self.assertEqual(
+            sorted(made),
+            [
+                "banks-order.csv",
+                "banks-rescued.csv",
+                "banks-unit.csv",
+                "banks-webster.csv",
+                "debts-reversed.csv",
+                "debts-unit.csv",
+                "rescues.toml",
+            ],
+        )
         for name in made:
             self.assertEqual(inputs[name][3], hashlib.sha256((kept / name).read_bytes()).hexdigest())
             shutil.copy(kept / name, self.folder / name)
-        shell = f"clearing() {{ {shlex.quote(PROGRAM)} \"$@\"; }}\n"
+        shell = f'clearing() {{ {shlex.quote(PROGRAM)} "$@"; }}\n'
         for words, status, digest in commands:
             name = words.split(" > ")[1]
             again = subprocess.run(["bash", "-c", shell + words], cwd=self.folder, stdin=subprocess.DEVNULL)
@@ -122,8 +173,15 @@ class TheFile(Report):
 
     def test_nothing_is_said_of_who_made_it_where(self):
         text = self.page(files_of(TWELVE), "--scenarios", TWELVE / "scenarios.toml", "--d3", self.file("d3.js", "0;"))
-        words = {"user": getpass.getuser() + "@", "host": socket.gethostname(), "folder": str(self.folder), "repository": str(ROOT), "home": str(pathlib.Path.home()) + "/",
-                 "program": os.path.dirname(os.path.realpath(PROGRAM)), "python": PYTHON}
+        words = {
+            "user": getpass.getuser() + "@",
+            "host": socket.gethostname(),
+            "folder": str(self.folder),
+            "repository": str(ROOT),
+            "home": str(pathlib.Path.home()) + "/",
+            "program": os.path.dirname(os.path.realpath(PROGRAM)),
+            "python": PYTHON,
+        }
         self.assertEqual([what for what, word in words.items() if word in text], [])
         read = Reader(text)
         self.assertIn(["banks", "banks.csv"], [cells[:2] for _, cells in read.rows])
@@ -132,17 +190,30 @@ class TheFile(Report):
         for name in ("banks.csv", "debts.csv", "scenarios.toml"):
             shutil.copy(TWELVE / name, self.folder / name)
         changed = shlex.quote(str(self.folder / "debts.csv"))
-        program = self.file("program", f'#!/bin/sh\n[ "$1" != bounds ] || echo >>{changed}\nexec {shlex.quote(PROGRAM)} "$@"\n')
+        program = self.file(
+            "program", f'#!/bin/sh\n[ "$1" != bounds ] || echo >>{changed}\nexec {shlex.quote(PROGRAM)} "$@"\n'
+        )
         program.chmod(0o755)
         words = [*files_of(self.folder), "--scenarios", self.folder / "scenarios.toml", "--out", self.folder / "r.html"]
-        done = subprocess.run([PYTHON, ROOT / "bin/clearing-report", *words], capture_output=True, encoding="utf-8", env={**os.environ, "CLEARING": str(program)})
+        done = subprocess.run(
+            [PYTHON, ROOT / "bin/clearing-report", *words],
+            capture_output=True,
+            encoding="utf-8",
+            env={**os.environ, "CLEARING": str(program)},
+        )
         self.assertEqual((done.returncode, done.stdout), (1, ""), done.stderr)
-        self.assertEqual(done.stderr, f"clearing-report: {self.folder / 'debts.csv'} changed while the report was made; nothing is written\n")
+        self.assertEqual(
+            done.stderr,
+            f"clearing-report: {self.folder / 'debts.csv'} changed while the report was made; nothing is written\n",
+        )
         self.assertFalse((self.folder / "r.html").exists())
 
     def test_without_jinja2_a_sentence_names_its_package(self):
         words = [*map(str, files_of(TWELVE)), "--out", str(self.folder / "r.html")]
-        program = f"import sys; sys.modules['jinja2'] = None; sys.argv = ['report.py', *{words!r}]; from clearing_tools.report import gather; gather.main()"
+        program = (
+            f"import sys; sys.modules['jinja2'] = None; sys.argv = ['report.py', *{words!r}]; from"
+            " clearing_tools.report import gather; gather.main()"
+        )
         done = subprocess.run([PYTHON, "-B", "-c", program], cwd=PACKAGES, capture_output=True, encoding="utf-8")
         self.assertEqual((done.returncode, done.stdout), (2, ""))
         self.assertIn("python3-jinja2", done.stderr)
@@ -175,7 +246,10 @@ class TheFile(Report):
     def test_without_d3_the_page_is_made_without_its_script(self):
         out = self.folder / "bare.html"
         words = [*map(str, files_of(TWELVE)), "--out", str(out)]
-        program = f"import sys; sys.argv = ['report.py', *{words!r}]; from clearing_tools.drawing import web; from clearing_tools.report import gather; web.D3 = []; gather.main()"
+        program = (
+            f"import sys; sys.argv = ['report.py', *{words!r}]; from clearing_tools.drawing import web;"
+            " from clearing_tools.report import gather; web.D3 = []; gather.main()"
+        )
         done = subprocess.run([PYTHON, "-B", "-c", program], cwd=PACKAGES, capture_output=True, encoding="utf-8")
         self.assertEqual((done.returncode, done.stdout), (0, ""))
         self.assertIn("node-d3", done.stderr)
@@ -188,7 +262,9 @@ class TheFile(Report):
         kept, own = self.folder / "kept", self.folder / "own"
         kept.mkdir()
         own.mkdir()
-        self.assertEqual(tool("clearing-report", *words, kept, "--scenarios", TWELVE / "scenarios.toml", python=PYTHON).returncode, 0)
+        self.assertEqual(
+            tool("clearing-report", *words, kept, "--scenarios", TWELVE / "scenarios.toml", python=PYTHON).returncode, 0
+        )
         before = {path.name: path.read_bytes() for path in kept.iterdir()}
         self.assertIn("stress.csv", before)
         (own / "payments.csv").write_text("mine\n")
@@ -196,7 +272,9 @@ class TheFile(Report):
         for place, cwd in ((kept, None), (".", own), (own / "payments.csv", None)):
             done = tool("clearing-report", *words, place, cwd=cwd, python=PYTHON)
             self.assertEqual((done.returncode, done.stdout), (2, ""), done.stderr)
-            self.assertEqual(done.stderr, f"clearing-report: {place} is there and no empty folder; name another with --keep\n")
+            self.assertEqual(
+                done.stderr, f"clearing-report: {place} is there and no empty folder; name another with --keep\n"
+            )
         self.assertEqual({path.name: path.read_bytes() for path in kept.iterdir()}, before)
         self.assertEqual([(path.name, path.read_text()) for path in own.iterdir()], [("payments.csv", "mine\n")])
         self.assertFalse((self.folder / "r.html").exists())
@@ -210,8 +288,18 @@ class TheFile(Report):
             program.chmod(0o755)
             told.write_text("")
             running = subprocess.Popen(
-                [PYTHON, "-B", str(ROOT / "bin/clearing-report"), *map(str, files_of(TWELVE)), "--out", str(self.folder / "r.html")],
-                env={**os.environ, "CLEARING": str(program), "TMPDIR": str(place)}, stdout=subprocess.PIPE, stderr=subprocess.PIPE)
+                [
+                    PYTHON,
+                    "-B",
+                    str(ROOT / "bin/clearing-report"),
+                    *map(str, files_of(TWELVE)),
+                    "--out",
+                    str(self.folder / "r.html"),
+                ],
+                env={**os.environ, "CLEARING": str(program), "TMPDIR": str(place)},
+                stdout=subprocess.PIPE,
+                stderr=subprocess.PIPE,
+            )
             self.addCleanup(running.kill)
             deadline = time.monotonic() + 30
             while not told.read_text().endswith("\n") and time.monotonic() < deadline:
@@ -230,16 +318,42 @@ class TheFile(Report):
         script = f'[ "$1" = "$TASK" ] || exec {shlex.quote(PROGRAM)} "$@"\nprintf "$SAID"\n'
         program = self.file("program", f"#!/bin/sh\n{script}")
         program.chmod(0o755)
-        words = [*map(str, files_of(TWELVE)), "--scenarios", str(TWELVE / "scenarios.toml"), "--default-keeps", "500", "--out", str(self.folder / "r.html")]
-        for task in ("check", "clear", "defaults", "bounds", "replay", "stress", "rescues", "impact", "breaking", "outcomes", "cost-bounds"):
+        words = [
+            *map(str, files_of(TWELVE)),
+            "--scenarios",
+            str(TWELVE / "scenarios.toml"),
+            "--default-keeps",
+            "500",
+            "--out",
+            str(self.folder / "r.html"),
+        ]
+        for task in (
+            "check",
+            "clear",
+            "defaults",
+            "bounds",
+            "replay",
+            "stress",
+            "rescues",
+            "impact",
+            "breaking",
+            "outcomes",
+            "cost-bounds",
+        ):
             for said in ("", "lawful\n", "\n\n\n", "a,b\n\nc\n\nd\n"):
                 # Of a file without scenarios nothing is printed.
                 if (task, said) == ("stress", ""):
                     continue
-                done = subprocess.run([PYTHON, "-B", str(ROOT / "bin/clearing-report"), *words], capture_output=True, encoding="utf-8",
-                                      env={**os.environ, "CLEARING": str(program), "TASK": task, "SAID": said})
+                done = subprocess.run(
+                    [PYTHON, "-B", str(ROOT / "bin/clearing-report"), *words],
+                    capture_output=True,
+                    encoding="utf-8",
+                    env={**os.environ, "CLEARING": str(program), "TASK": task, "SAID": said},
+                )
                 self.assertEqual((done.returncode, done.stdout), (1, ""), (task, said))
-                self.assertEqual(done.stderr, f"clearing-report: {program} did not print what `clearing {task}` does\n", said)
+                self.assertEqual(
+                    done.stderr, f"clearing-report: {program} did not print what `clearing {task}` does\n", said
+                )
 
     def test_a_network_without_debts_or_scenarios_has_a_page(self):
         banks = self.file("banks.csv", "name,cash,rule\nA,0,order\n")

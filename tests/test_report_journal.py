@@ -23,7 +23,9 @@ class Journal(Case):
 
     def test_two_million_raises_take_less_than_300_megabytes(self):
         name = self.journal(2_000_000)
-        done = subprocess.run([sys.executable, "-B", "-c", MEASURE, name], cwd=PACKAGES, capture_output=True, encoding="utf-8")
+        done = subprocess.run(
+            [sys.executable, "-B", "-c", MEASURE, name], cwd=PACKAGES, capture_output=True, encoding="utf-8"
+        )
         self.assertEqual((done.returncode, done.stderr), (0, ""))
         frames, raises, *_, kilobytes = done.stdout.replace("[", "").replace("]", "").replace(",", "").split()
         self.assertLessEqual(int(frames), MOST_FRAMES)
@@ -34,8 +36,16 @@ class Journal(Case):
     def test_each_step_has_its_lines_stamps_and_what_is_then_paid(self):
         place = {("A", "B", "1"): 0, ("B", "A", "1"): 1}
         frames = frames_of(read_journal(self.journal(5), place))
-        self.assertEqual(frames, [[2, 2, 0, 0, 1, [0, 1]], [3, 3, 1, 1, 1, [1, 1]], [4, 4, 2, 2, 1, [0, 2]], [5, 5, 3, 3, 1, [1, 2]],
-                                  [6, 6, 4, 4, 1, [0, 3]]])
+        self.assertEqual(
+            frames,
+            [
+                [2, 2, 0, 0, 1, [0, 1]],
+                [3, 3, 1, 1, 1, [1, 1]],
+                [4, 4, 2, 2, 1, [0, 2]],
+                [5, 5, 3, 3, 1, [1, 2]],
+                [6, 6, 4, 4, 1, [0, 3]],
+            ],
+        )
         frames = frames_of(read_journal(self.journal(MOST_FRAMES + 1), place))
         self.assertEqual((len(frames), frames[0]), ((MOST_FRAMES + 2) // 2, [2, 3, 0, 1, 2, [0, 1, 1, 1]]))
         self.assertLessEqual(sum(len(frame[5]) for frame in frames), 2 * MOST_CHANGES)

@@ -6,7 +6,8 @@ from reports import InTheBrowser, networks_of_every_character, odd_net
 from clearing_tools.labels import shown  # noqa: E402
 
 
-# What a longer name has more of: its whole name on pointing, a second line in a picture, and the note with the names in full.
+# What a longer name has more of: its whole name on pointing, a second line in a picture, and the note with the names
+# in full.
 LONGER = {"title ", "text text-anchor,x,y", "P "}
 
 
@@ -14,34 +15,56 @@ class Names(InTheBrowser):
     def test_hostile_names_do_nothing_and_are_shown(self):
         files, names = odd_net(self.folder, 38)
         self.open(files)
-        drawn = self.js("return [...document.querySelectorAll('svg.net a')].map("
-                        "a => { a.focus(); return [a.dataset.bank, document.querySelector('#shown h3').textContent]; })")
+        drawn = self.js(
+            "return [...document.querySelectorAll('svg.net a')].map("
+            "a => { a.focus(); return [a.dataset.bank, document.querySelector('#shown h3').textContent]; })"
+        )
         self.assertEqual([name for _, name in sorted(drawn, key=lambda pair: int(pair[0]))], list(map(shown, names)))
         for key in ("first", "next", "next", "last"):
             self.click(key)
         self.assertEqual(self.js("return document.querySelectorAll('img, script:not([type])').length"), 2)
-        self.assertEqual(sorted(self.js("return [...document.querySelectorAll('#banks-table tbody th')].map(h => h.textContent)")), sorted(map(shown, names)))
+        self.assertEqual(
+            sorted(self.js("return [...document.querySelectorAll('#banks-table tbody th')].map(h => h.textContent)")),
+            sorted(map(shown, names)),
+        )
 
     def ring_of(self, names):
         """A ring of banks of these names, short of cash, with scenarios by these names."""
-        banks = self.file("banks.csv", "name,cash,rule\n" + "".join(f"{name},{at % 3},equal\n" for at, name in enumerate(names)))
+        banks = self.file(
+            "banks.csv", "name,cash,rule\n" + "".join(f"{name},{at % 3},equal\n" for at, name in enumerate(names))
+        )
         debts = "".join(f"{name},{names[(at + 1) % len(names)]},1,{2 + at % 4}\n" for at, name in enumerate(names))
         text = lambda name: json.dumps(name, ensure_ascii=False)
-        scenarios = "".join(f"[[scenario]]\nname = {text(name)}\ncut = 100\n[[scenario.loss]]\nbank = {text(name)}\namount = 1\n" for name in names[:3])
-        return ["--banks", banks, "--debts", self.file("debts.csv", "debtor,creditor,class,claim\n" + debts),
-                "--scenarios", self.file("scenarios.toml", scenarios)]
+        scenarios = "".join(
+            f"[[scenario]]\nname = {text(name)}\ncut = 100\n[[scenario.loss]]\nbank = {text(name)}\namount = 1\n"
+            for name in names[:3]
+        )
+        return [
+            "--banks",
+            banks,
+            "--debts",
+            self.file("debts.csv", "debtor,creditor,class,claim\n" + debts),
+            "--scenarios",
+            self.file("scenarios.toml", scenarios),
+        ]
 
     def elements(self):
-        """How often the page has each kind of element with each list of attributes, where the search is empty and no part is laid out. Names
-        that are written from right to left have an element `bdi` of their own."""
-        self.js("location.hash = ''; const box = document.getElementById('search'); box.value = ''; box.dispatchEvent(new Event('input'))")
+        """How often the page has each kind of element with each list of attributes, where the search is empty and no
+        part is laid out. Names that are written from right to left have an element `bdi` of their own."""
+        self.js(
+            "location.hash = ''; const box = document.getElementById('search'); box.value = ''; box.dispatchEvent(new"
+            " Event('input'))"
+        )
         self.until(lambda: not self.js("return document.getElementById('part').childNodes.length"))
-        return self.js("""const count = {};
+        return self.js(
+            """const count = {};
             for (const e of document.querySelectorAll('*:not(bdi)')) {
-                const kind = e.tagName + ' ' + [...e.attributes].map(a => a.name).filter(name => name !== 'class').sort();
+                const names = [...e.attributes].map(a => a.name).filter(name => name !== 'class');
+                const kind = e.tagName + ' ' + names.sort();
                 count[kind] = (count[kind] || 0) + 1;
             }
-            return count;""")
+            return count;"""
+        )
 
     def test_names_of_every_character_are_shown_as_text(self):
         for number, names in enumerate(networks_of_every_character()):
@@ -49,8 +72,12 @@ class Names(InTheBrowser):
             given, names = names, list(map(shown, names))
             self.open(files, "--title", title)
             with self.subTest(names=number):
-                # The page's own table, its data, its title, its scenarios, and the parts of some banks, which are laid out when asked for.
-                rows = self.js("return [...document.querySelectorAll('#banks-table tbody tr')].map(r => [+r.dataset.bank, r.cells[0].textContent])")
+                # The page's own table, its data, its title, its scenarios, and the parts of some banks, which are
+                # laid out when asked for.
+                rows = self.js(
+                    "return [...document.querySelectorAll('#banks-table tbody tr')].map(r => [+r.dataset.bank,"
+                    " r.cells[0].textContent])"
+                )
                 self.assertEqual([name for _, name in sorted(rows)], names)
                 self.assertEqual(self.js("return JSON.parse(document.getElementById('data').textContent).names"), names)
                 self.assertTrue(self.js("return document.querySelector('title').textContent").startswith(shown(title)))
@@ -66,13 +93,25 @@ class Names(InTheBrowser):
                 # The player says who pays whom, and the line of the journal.
                 self.click("first")
                 self.click("next")
-                debtor, creditor = self.js("return document.getElementById('line').textContent").split(",")[1:3] or ("", "")
+                debtor, creditor = self.js("return document.getElementById('line').textContent").split(",")[1:3] or (
+                    "",
+                    "",
+                )
                 self.assertEqual(names[(names.index(debtor) + 1) % len(names)], creditor)
-                self.assertIn(f"\u2068{debtor}\u2069 has now paid \u2068{creditor}\u2069", self.js("return document.getElementById('raise').textContent"))
+                self.assertIn(
+                    f"\u2068{debtor}\u2069 has now paid \u2068{creditor}\u2069",
+                    self.js("return document.getElementById('raise').textContent"),
+                )
                 # The search finds a bank by its whole name, as it is shown and as it is in the file.
                 for name, raw in list(zip(names, given))[number % 5 :: max(1, len(names) // 5)]:
                     for word in (name, raw):
-                        self.js("const box = document.getElementById('search'); box.value = arguments[0]; box.dispatchEvent(new Event('input'))", word)
+                        self.js(
+                            (
+                                "const box = document.getElementById('search'); box.value = arguments[0];"
+                                " box.dispatchEvent(new Event('input'))"
+                            ),
+                            word,
+                        )
                         self.assertIn(name, self.shown_rows())
                 found = self.elements()
                 self.page(self.ring_of([f"N{at}" for at in range(len(names))]), "--title", "N")
@@ -81,4 +120,7 @@ class Names(InTheBrowser):
                 self.click("next")
                 plain = self.elements()
                 self.assertEqual(set(found), set(plain))
-                self.assertEqual({kind: found[kind] for kind in found if kind not in LONGER}, {kind: plain[kind] for kind in plain if kind not in LONGER})
+                self.assertEqual(
+                    {kind: found[kind] for kind in found if kind not in LONGER},
+                    {kind: plain[kind] for kind in plain if kind not in LONGER},
+                )

@@ -11,13 +11,21 @@ from clearing_client.steady import MARK, NOTE, WHY, unsteady
 class Tables(InTheBrowser):
     def rows(self, table="#banks-table"):
         """The cells of the rows of a table, by the first of them."""
-        rows = self.js("return [...document.querySelectorAll(arguments[0] + ' tbody tr')].map(r => [...r.cells].map(c => c.textContent.trim()))", table)
+        rows = self.js(
+            (
+                "return [...document.querySelectorAll(arguments[0] + ' tbody tr')].map(r => [...r.cells].map(c =>"
+                " c.textContent.trim()))"
+            ),
+            table,
+        )
         return {row[0]: row[1:] for row in rows}
 
     def test_the_table_of_banks_has_the_numbers_of_the_program(self):
         files = files_of(TWELVE)
         self.open(files, "--unit", "0.01", "--currency", "EUR")
-        self.assertEqual(self.heads(), ["Bank", "State", "Owed", "Paid", "Unpaid", "Keeps", "Least rescue", "Falls at a cut of"])
+        self.assertEqual(
+            self.heads(), ["Bank", "State", "Owed", "Paid", "Unpaid", "Keeps", "Least rescue", "Falls at a cut of"]
+        )
         rows, found = self.rows(), rows_of("defaults", files)
         cuts = {row[0]: int(row[1]) for row in rows_of("breaking", files)}
         self.assertEqual(len(rows), 12)
@@ -27,11 +35,24 @@ class Tables(InTheBrowser):
         for name, _, paid, owed, equity, state in found:
             rescue = "\u2013"
             if state != "sound":
-                rescue = amount(clearing("rescue", *files, "--bank", name).stdout.decode().split("\n")[0].split(",")[2], "0.01")
+                rescue = amount(
+                    clearing("rescue", *files, "--bank", name).stdout.decode().split("\n")[0].split(",")[2], "0.01"
+                )
             cut = "now" if state != "sound" else "100%" if cuts[name] == 1000 else f"{cuts[name] / 10:.1f}%"
             none = lambda units: amount(units, "0.01") if int(units) else "0"
-            self.assertEqual(rows[name], [{"fundamental": "own fundamentals"}.get(state, state), none(owed), none(paid), none(int(owed) - int(paid)),
-                                          none(equity), rescue, cut], name)
+            self.assertEqual(
+                rows[name],
+                [
+                    {"fundamental": "own fundamentals"}.get(state, state),
+                    none(owed),
+                    none(paid),
+                    none(int(owed) - int(paid)),
+                    none(equity),
+                    rescue,
+                    cut,
+                ],
+                name,
+            )
         values = self.js("return [...document.querySelectorAll('#figures .value')].map(v => v.textContent)")
         self.assertEqual(values, ["4 of 12 banks", "EUR 14,933.29", "EUR 97,500.00", "89.1%"])
 
@@ -41,10 +62,21 @@ class Tables(InTheBrowser):
         names = [row[0] for row in rows_of("defaults", files)]
         debts = rows_of("clear", files)
         for at, name in enumerate(names):
-            shown = self.js("return [...document.querySelectorAll(`#bank-${arguments[0]} table`)].map("
-                            "t => [...t.tBodies[0].rows].map(r => [...r.cells].map(c => c.textContent)))", at)
-            expected = [[[row[1 - side], row[2], *(f"{n:,}" for n in (int(row[3]), int(row[4]), int(row[3]) - int(row[4])))]
-                         for row in debts if row[side] == name] for side in (0, 1)]
+            shown = self.js(
+                (
+                    "return [...document.querySelectorAll(`#bank-${arguments[0]} table`)].map("
+                    "t => [...t.tBodies[0].rows].map(r => [...r.cells].map(c => c.textContent)))"
+                ),
+                at,
+            )
+            expected = [
+                [
+                    [row[1 - side], row[2], *(f"{n:,}" for n in (int(row[3]), int(row[4]), int(row[3]) - int(row[4])))]
+                    for row in debts
+                    if row[side] == name
+                ]
+                for side in (0, 1)
+            ]
             self.assertEqual(shown, [rows for rows in expected if rows], name)
 
     def test_outside_claims_are_shown_and_state_decides(self):
@@ -52,10 +84,15 @@ class Tables(InTheBrowser):
         self.open(files)
         rows = self.rows()
         self.assertEqual(rows["A"][:4], ["own fundamentals", "17", "8", "9"])
-        states = {cells[0]: {"fundamental": "own fundamentals"}.get(cells[-1], cells[-1]) for cells in rows_of("defaults", files)}
+        states = {
+            cells[0]: {"fundamental": "own fundamentals"}.get(cells[-1], cells[-1])
+            for cells in rows_of("defaults", files)
+        }
         self.assertEqual({name: cells[0] for name, cells in rows.items()}, states)
         outside = {cells[0]: (owed, int(cells[2])) for cells, owed in zip(rows_of("defaults", files), (9, 4, 5, 0))}
-        self.assert_flows(self.expected_flows([(debt[:4], int(debt[4])) for debt in rows_of("clear", files)], None, outside))
+        self.assert_flows(
+            self.expected_flows([(debt[:4], int(debt[4])) for debt in rows_of("clear", files)], None, outside)
+        )
         # A file of the page has what is owed and paid outside apart.
         text = self.js("return JSON.parse(document.getElementById('data').textContent).files.banks").split("\n")
         self.assertEqual(dict(zip(text[0].split(","), text[1].split(",")))["owed_outside"], "9")
@@ -76,8 +113,16 @@ class Tables(InTheBrowser):
             states = [line.split(",")[-1] for line in lines[lines.index("bank,estate,paid,owed,equity,state") + 1 : -2]]
             _, _, paid, owed, _, defaults = lines[-2].split(",")
             lost = 25120002 - int(lines[-1].removeprefix("cash,"))
-            self.assertEqual(row[:5], [defaults, str(states.count("fundamental")), str(states.count("contagion")),
-                                       amount(int(owed) - int(paid), "0.01"), amount(lost, "0.01") if lost else "0"])
+            self.assertEqual(
+                row[:5],
+                [
+                    defaults,
+                    str(states.count("fundamental")),
+                    str(states.count("contagion")),
+                    amount(int(owed) - int(paid), "0.01"),
+                    amount(lost, "0.01") if lost else "0",
+                ],
+            )
         self.assertEqual(rows["half of all cash is lost"][5], "with the other label: Birk and Elbe")
         self.assertEqual(rows["Kemi and Havel lose their cash"][5], "the same banks, the same labels")
         # The chart says the same, and its message is that unpaid is no loss.
@@ -86,19 +131,35 @@ class Tables(InTheBrowser):
             _, _, paid, owed, *_ = lines[-2].split(",")
             self.assertIn(amount(int(owed) - int(paid), "0.01"), chart)
         title = self.js("return document.querySelector('#scenarios h3').textContent.replaceAll('\u00a0', ' ')")
-        self.assertEqual(title, "Unpaid is not loss: with EUR 60,000.00 less at Havel and Kemi, no debt more goes unpaid")
+        self.assertEqual(
+            title, "Unpaid is not loss: with EUR 60,000.00 less at Havel and Kemi, no debt more goes unpaid"
+        )
 
     def test_does_it_stand_is_what_the_program_says_of_the_case_changed(self):
         files = files_of(TWELVE)
         self.open(files)
         rows = self.rows("#stands table")
         expected = {}
-        banks, debts = ([line.split(",") for line in file.read_text(encoding="utf-8").splitlines()] for file in (files[1], files[3]))
-        halves = lambda rows, at: [rows[0]] + [[*row[:at], str(round(int(row[at]) / 2)), *row[at + 1 :]] for row in rows[1:]]
-        for name, changed in {"as given": (banks, debts), "each bank by webster, in proportion": ([banks[0]] + [[*row[:2], "webster"] for row in banks[1:]], debts),
-                              "each bank pays one after another (order)": ([banks[0]] + [[*row[:2], "order"] for row in banks[1:]], debts),
-                              "unit twice as large": (halves(banks, 1), halves(debts, 3)), "debts in reverse order": (banks, [debts[0], *debts[:0:-1]])}.items():
-            both = [self.file(word, "".join(",".join(row) + "\n" for row in rows)) for word, rows in zip(("b.csv", "d.csv"), changed)]
+        banks, debts = (
+            [line.split(",") for line in file.read_text(encoding="utf-8").splitlines()] for file in (files[1], files[3])
+        )
+        halves = lambda rows, at: [rows[0]] + [
+            [*row[:at], str(round(int(row[at]) / 2)), *row[at + 1 :]] for row in rows[1:]
+        ]
+        for name, changed in {
+            "as given": (banks, debts),
+            "each bank by webster, in proportion": ([banks[0]] + [[*row[:2], "webster"] for row in banks[1:]], debts),
+            "each bank pays one after another (order)": (
+                [banks[0]] + [[*row[:2], "order"] for row in banks[1:]],
+                debts,
+            ),
+            "unit twice as large": (halves(banks, 1), halves(debts, 3)),
+            "debts in reverse order": (banks, [debts[0], *debts[:0:-1]]),
+        }.items():
+            both = [
+                self.file(word, "".join(",".join(row) + "\n" for row in rows))
+                for word, rows in zip(("b.csv", "d.csv"), changed)
+            ]
             found = rows_of("defaults", ["--banks", both[0], "--debts", both[1]])
             unit = 2 if name.startswith("unit") else 1
             unpaid = unit * sum(int(row[3]) - int(row[2]) for row in found)
@@ -114,9 +175,13 @@ class Tables(InTheBrowser):
         self.assertIn("One unit decides", self.js("return document.querySelector('#stands h3').textContent"))
         expected = unsteady(Network(str(banks), str(debts)))
         self.assertIn("C", expected)
-        # With amounts twice as large B leaves a unit of four unpaid too, and all of them four of sixteen, which are two here.
+        # With amounts twice as large B leaves a unit of four unpaid too, and all of them four of sixteen, which are
+        # two here.
         self.assertEqual(self.rows("#stands table")["unit half as large"][:2], ["3", "2"])
-        self.assertEqual([name for name, cells in self.rows().items() if MARK in cells[0]], sorted(expected, key=list(self.rows()).index))
+        self.assertEqual(
+            [name for name, cells in self.rows().items() if MARK in cells[0]],
+            sorted(expected, key=list(self.rows()).index),
+        )
         # In pictures and sentences too, with what it means.
         drawn = self.js("return [...document.querySelectorAll('svg.net .nm')].map(t => t.textContent)")
         self.assertEqual(sorted(name for name in drawn if MARK in name), sorted(f"{name} {MARK}" for name in expected))
@@ -132,31 +197,50 @@ class Tables(InTheBrowser):
         for line in text[1:]:
             row = dict(zip(text[0].split(","), line.split(",")))
             banks = [given.split(",") for given in files[1].read_text(encoding="utf-8").splitlines()]
-            banks = [[one[0], str(int(one[1]) + int(row["least_rescue"])), one[2]] if one[0] == row["bank"] else one for one in banks]
+            banks = [
+                [one[0], str(int(one[1]) + int(row["least_rescue"])), one[2]] if one[0] == row["bank"] else one
+                for one in banks
+            ]
             changed = self.file("b.csv", "".join(",".join(one) + "\n" for one in banks))
             self.assertEqual(int(row["takes_away"]), paid(["--banks", changed, *files[2:]]) - before, row["bank"])
 
     def test_the_table_is_sorted(self):
         self.open(files_of(TWELVE))
         rows = rows_of("defaults", files_of(TWELVE))
-        values = {3: lambda row: int(row[3]), 4: lambda row: int(row[2]), 5: lambda row: int(row[3]) - int(row[2]), 6: lambda row: int(row[4])}
+        values = {
+            3: lambda row: int(row[3]),
+            4: lambda row: int(row[2]),
+            5: lambda row: int(row[3]) - int(row[2]),
+            6: lambda row: int(row[4]),
+        }
         for place, value in values.items():
             head = f"#banks-table thead th:nth-child({place})"
             at = {row[0]: (value(row), -k) for k, row in enumerate(rows)}
             self.js("document.querySelector(arguments[0] + ' button').click()", head)
             self.assertEqual(self.shown_rows(), sorted(at, key=at.get, reverse=True))
-            self.assertEqual(self.js("return document.querySelector(arguments[0]).getAttribute('aria-sort')", head), "descending")
+            self.assertEqual(
+                self.js("return document.querySelector(arguments[0]).getAttribute('aria-sort')", head), "descending"
+            )
             self.js("document.querySelector(arguments[0] + ' button').click()", head)
             self.assertEqual(self.shown_rows(), sorted(at, key=lambda name: (at[name][0], -at[name][1])))
 
     def test_the_table_is_filtered(self):
         self.open(files_of(TWELVE))
         state_of = {row[0]: row[-1] for row in rows_of("defaults", files_of(TWELVE))}
-        choose = "const s = document.getElementById('state'); s.value = arguments[0]; s.dispatchEvent(new Event('change'))"
-        for choice, states in (("default", ("fundamental", "contagion")), ("sound", ("sound",)), ("contagion", ("contagion",)),
-                               ("gridlock", ()), ("all", ("sound", "fundamental", "contagion"))):
+        choose = (
+            "const s = document.getElementById('state'); s.value = arguments[0]; s.dispatchEvent(new Event('change'))"
+        )
+        for choice, states in (
+            ("default", ("fundamental", "contagion")),
+            ("sound", ("sound",)),
+            ("contagion", ("contagion",)),
+            ("gridlock", ()),
+            ("all", ("sound", "fundamental", "contagion")),
+        ):
             self.js(choose, choice)
-            self.assertEqual(sorted(self.shown_rows()), sorted(name for name, state in state_of.items() if state in states))
+            self.assertEqual(
+                sorted(self.shown_rows()), sorted(name for name, state in state_of.items() if state in states)
+            )
         self.js("document.getElementById('search').focus()")
         self.press("i", "R")
         self.assertEqual(self.shown_rows(), ["Birk", "Crédit Loire"])
@@ -167,25 +251,45 @@ class Tables(InTheBrowser):
 
     def test_each_table_and_picture_is_given_as_a_file(self):
         self.open(files_of(TWELVE), "--scenarios", TWELVE / "scenarios.toml", "--default-keeps", "700")
-        self.js("""window.saved = {}; const made = URL.createObjectURL; let last;
+        self.js(
+            """window.saved = {}; const made = URL.createObjectURL; let last;
             URL.createObjectURL = content => { last = content; return made.call(URL, content); };
             HTMLAnchorElement.prototype.click = function () { saved[this.download] = last; };
-            document.querySelectorAll('button[data-file]').forEach(b => b.click());""")
+            document.querySelectorAll('button[data-file]').forEach(b => b.click());"""
+        )
         pictures = ("network", "unpaid", "breaking", "scenarios", "ruin")
-        names = sorted([f"{key}.{kind}" for key in pictures for kind in ("csv", "svg", "png")] + ["stands.csv", "banks.csv", "costs.csv"])
+        names = sorted(
+            [f"{key}.{kind}" for key in pictures for kind in ("csv", "svg", "png")]
+            + ["stands.csv", "banks.csv", "costs.csv"]
+        )
         self.until(lambda: self.js("return Object.keys(saved).length") == len(names))
         self.assertEqual(self.js("return Object.keys(saved).sort()"), names)
-        kinds = self.js("return Object.fromEntries(Object.entries(saved).map(([name, content]) => [name, [content.type, content.size]]))")
+        kinds = self.js(
+            "return Object.fromEntries(Object.entries(saved).map(([name, content]) => [name, [content.type,"
+            " content.size]]))"
+        )
         for name, (kind, size) in kinds.items():
             self.assertIn({"csv": "text/csv", "svg": "image/svg+xml", "png": "image/png"}[name[-3:]], kind)
             self.assertGreater(size, 100, name)
         text = self.driver.execute_async_script("saved['banks.csv'].text().then(arguments[0])").splitlines()
-        self.assertEqual([line.split(",")[0] for line in text[1:]], [row[0] for row in rows_of("defaults", files_of(TWELVE))])
+        self.assertEqual(
+            [line.split(",")[0] for line in text[1:]], [row[0] for row in rows_of("defaults", files_of(TWELVE))]
+        )
         costs = self.driver.execute_async_script("saved['costs.csv'].text().then(arguments[0])").splitlines()
-        self.assertEqual([line.split(",") for line in costs[1:]], [row for row in rows_of("cost-bounds", files_of(TWELVE), "--keep", "700") if len(row) == 7][1:])
+        self.assertEqual(
+            [line.split(",") for line in costs[1:]],
+            [row for row in rows_of("cost-bounds", files_of(TWELVE), "--keep", "700") if len(row) == 7][1:],
+        )
         # Each table that is shown has its numbers as a file.
-        self.assertEqual(self.js("""return [...document.querySelectorAll('main table.data')].filter(t => t.checkVisibility() && !t.closest('#evidence, .banks-apart')
-            && !t.closest('section, figure').querySelector('button[data-file$=".csv"]')).map(t => t.textContent.slice(0, 40))"""), [])
+        self.assertEqual(
+            self.js(
+                """return [...document.querySelectorAll('main table.data')].filter(t => t.checkVisibility()
+            && !t.closest('#evidence, .banks-apart')
+            && !t.closest('section, figure').querySelector('button[data-file$=".csv"]')
+            ).map(t => t.textContent.slice(0, 40))"""
+            ),
+            [],
+        )
         svg = self.driver.execute_async_script("saved['network.svg'].text().then(arguments[0])")
         self.assertNotIn("var(--", svg)
         self.assertEqual(svg.count("data-flow"), 40)
@@ -197,7 +301,10 @@ class Tables(InTheBrowser):
         owed, outside = {"A": 8, "B": 10, "C": 11, "D": 1}, {"A": 9, "B": 4, "C": 5, "D": 0}
         rows = rows_of("defaults", files)
         unpaid = sum(owed[row[0]] - int(row[3]) + outside[row[0]] - int(row[2]) for row in rows)
-        tile = self.js("return [...document.querySelectorAll('#figures div')].find(d => d.firstChild.textContent === 'Unpaid').textContent")
+        tile = self.js(
+            "return [...document.querySelectorAll('#figures div')].find(d => d.firstChild.textContent ==="
+            " 'Unpaid').textContent"
+        )
         self.assertIn(f"Unpaid{unpaid} units", tile)
         foot = self.js("return [...document.querySelectorAll('#banks-table tfoot td')].map(c => c.textContent)")
         self.assertEqual(dict(zip(self.heads()[1:], foot))["Unpaid"], str(unpaid))
@@ -213,9 +320,13 @@ class Tables(InTheBrowser):
     def test_the_charts_have_the_numbers_of_the_program(self):
         files = files_of(TWELVE)
         self.open(files)
-        texts = lambda key: self.js("return [...document.querySelectorAll(arguments[0] + ' .w-l text')].map(t => t.firstChild.textContent)", key)
+        texts = lambda key: self.js(
+            "return [...document.querySelectorAll(arguments[0] + ' .w-l text')].map(t => t.firstChild.textContent)", key
+        )
         bars = self.js("return [...document.querySelectorAll('#unpaid .w-l rect.u')].map(b => b.getBBox().width)")
-        unpaid = sorted((int(row[3]) - int(row[2]) for row in rows_of("defaults", files) if row[-1] != "sound"), reverse=True)
+        unpaid = sorted(
+            (int(row[3]) - int(row[2]) for row in rows_of("defaults", files) if row[-1] != "sound"), reverse=True
+        )
         for bar, units in zip(bars, unpaid):
             self.assertAlmostEqual(bar / bars[0], units / unpaid[0], delta=0.01)
         self.assertEqual(len(bars), 4)
@@ -233,8 +344,17 @@ class Tables(InTheBrowser):
         for name, keep in (("core", 800), ("hub", 500), ("cycles", 0), ("gridlock", 900), ("chain", 1000)):
             files = files_of(ROOT / "examples" / name)
             self.open(files, "--default-keeps", keep)
-            ends, *banks = self.js("return [...document.querySelectorAll('#costs table')].map(t => [...t.tBodies[0].rows].map(r => [...r.cells].map(c => c.textContent.trim())))")
-            bounds, standings = (part.split("\n") for part in clearing("cost-bounds", *files, "--keep", keep).stdout.decode().removesuffix("\n").split("\n\n"))
+            ends, *banks = self.js(
+                "return [...document.querySelectorAll('#costs table')].map(t => [...t.tBodies[0].rows].map(r =>"
+                " [...r.cells].map(c => c.textContent.trim())))"
+            )
+            bounds, standings = (
+                part.split("\n")
+                for part in clearing("cost-bounds", *files, "--keep", keep)
+                .stdout.decode()
+                .removesuffix("\n")
+                .split("\n\n")
+            )
             debts, rows = [line.split(",") for line in bounds[1:]], [line.split(",") for line in standings[1:]]
             given = [line.split(",") for line in files[1].read_text().splitlines()[1:]]
             cash, outside = sum(int(row[1]) for row in given), sum(int(row[3]) for row in given if len(row) > 3)
@@ -243,18 +363,44 @@ class Tables(InTheBrowser):
             columns = [[[row[-1] for row in plain], due - sum(int(row[-4]) for row in plain) - (cash - kept), 0, kept]]
             for end, at in ((1, 4), (4, 5)):
                 lost, kept = (sum(int(row[place]) for row in rows) for place in (end, end + 1))
-                columns.append([[row[end + 2] for row in rows], due - sum(int(debt[at]) for debt in debts) - (cash - lost - kept), lost, kept])
-            expected = [[f"{n:,}" for n in (len(states) - states.count("sound"), states.count("fundamental"), states.count("contagion"), *amounts)]
-                        for states, *amounts in columns]
+                columns.append(
+                    [
+                        [row[end + 2] for row in rows],
+                        due - sum(int(debt[at]) for debt in debts) - (cash - lost - kept),
+                        lost,
+                        kept,
+                    ]
+                )
+            expected = [
+                [
+                    f"{n:,}"
+                    for n in (
+                        len(states) - states.count("sound"),
+                        states.count("fundamental"),
+                        states.count("contagion"),
+                        *amounts,
+                    )
+                ]
+                for states, *amounts in columns
+            ]
             self.assertEqual([list(column) for column in zip(*(row[1:] for row in ends))], expected, name)
             words = {"fundamental": "own fundamentals"}
-            fallen = {row[0]: [words.get(row[3], row[3]), words.get(row[6], row[6]), *(f"{int(row[at]):,}" for at in (1, 4, 5))]
-                      for row in rows if (row[3], row[6]) != ("sound", "sound")}
+            fallen = {
+                row[0]: [
+                    words.get(row[3], row[3]),
+                    words.get(row[6], row[6]),
+                    *(f"{int(row[at]):,}" for at in (1, 4, 5)),
+                ]
+                for row in rows
+                if (row[3], row[6]) != ("sound", "sound")
+            }
             shown = {row[0]: row[1:] for row in (banks[0] if banks else [])}
             self.assertEqual(len(shown), min(12, len(fallen)), name)
             self.assertEqual({bank: fallen[bank] for bank in shown}, shown, name)
             # Those at one end alone are shown in any case.
-            self.assertEqual([bank for bank, cells in fallen.items() if cells[1] == "sound" and bank not in shown][12:], [])
+            self.assertEqual(
+                [bank for bank, cells in fallen.items() if cells[1] == "sound" and bank not in shown][12:], []
+            )
             self.assertEqual(self.js("return document.querySelectorAll('nav a[href=\"#costs\"]').length"), 1)
         self.open(files_of(TWELVE))
         self.assertEqual(self.js("return document.querySelectorAll('#costs, a[href=\"#costs\"]').length"), 0)
@@ -265,32 +411,87 @@ class Tables(InTheBrowser):
             return self.js("return [...document.querySelectorAll('#summary li')].map(e => e.textContent)")[5:]
 
         core, ring = files_of(ROOT / "examples/core"), files_of(ROOT / "examples/gridlock")
-        self.assertEqual(last(core, "--default-keeps", "800"), [
-            "Where a bank in default keeps 80% of its estate, 42 banks fall at the least payments that clear, and 41 at the greatest. At the least 102,005"
-            " units are lost of estates, and 341,769 units more stay unpaid than without costs; at the greatest 101,718 units are lost of estates, and 340,505 units more stay"
-            " unpaid than without costs."])
-        self.assertEqual(last(files_of(ROOT / "examples/chain"), "--default-keeps", "500", "--unit", "1000", "--currency", "EUR"), [
-            "Where a bank in default keeps 50% of its estate, 2 banks fall at the least as at the greatest payments that clear; EUR\u00a06,000 is lost of estates, and"
-            " EUR\u00a010,000 more stays unpaid than without costs."])
-        self.assertEqual(last(ring, "--default-keeps", "900"), [
-            "Where a bank in default keeps 90% of its estate, 3 banks fall at the least payments that clear, and none at the greatest. At the least nothing is lost of estates, and"
-            " as much stays unpaid as without costs; at the greatest nothing is lost of estates, and 300 units less stay unpaid than without costs."])
+        self.assertEqual(
+            last(core, "--default-keeps", "800"),
+            [
+                "Where a bank in default keeps 80% of its estate, 42 banks fall at the least payments that clear, and"
+                " 41 at the greatest. At the least 102,005 units are lost of estates, and 341,769 units more stay"
+                " unpaid than without costs; at the greatest 101,718 units are lost of estates, and 340,505 units more"
+                " stay unpaid than without costs."
+            ],
+        )
+        self.assertEqual(
+            last(files_of(ROOT / "examples/chain"), "--default-keeps", "500", "--unit", "1000", "--currency", "EUR"),
+            [
+                "Where a bank in default keeps 50% of its estate, 2 banks fall at the least as at the greatest payments"
+                " that clear; EUR\u00a06,000 is lost of estates, and EUR\u00a010,000 more stays unpaid than without"
+                " costs."
+            ],
+        )
+        self.assertEqual(
+            last(ring, "--default-keeps", "900"),
+            [
+                "Where a bank in default keeps 90% of its estate, 3 banks fall at the least payments that clear, and"
+                " none at the greatest. At the least nothing is lost of estates, and as much stays unpaid as without"
+                " costs; at the greatest nothing is lost of estates, and 300 units less stay unpaid than without costs."
+            ],
+        )
         self.assertEqual(last(core), [])
 
     def test_the_summary_is_five_sentences_of_the_results(self):
         self.open(files_of(TWELVE), "--scenarios", TWELVE / "scenarios.toml", "--unit", "1000", "--currency", "EUR")
-        said = lambda: self.js("return [...document.querySelectorAll('#summary li')].map(e => e.textContent.replaceAll('\u00a0', ' '))")
-        self.assertEqual(said(), [
-            "Four of twelve banks cannot pay all they owe: EUR 1.49 billion of EUR 9.75 billion stays unpaid, 15.3%.",
-            "Dunmore and Isar could not pay even if all their debtors paid in full; Elbe and Birk could (label: contagion).",
-            "EUR 113 million more lets Birk pay in full, the least of the four; Dunmore needs EUR 700 million, and that takes EUR 1.06 billion of"
-            " unpaid debt away, the most for each EUR (1.51).",
-            "In the worst of three scenarios, \u201cthree quarters are lost and Isar loses all\u201d, the same four banks default and EUR 6.61"
-            " billion stays unpaid.",
-            "The next bank in default is Jura, at a cut of 89.1% of all cash; then Fjord, at 94.1%."])
-        self.assertEqual(self.js("return document.querySelector('h1').textContent.replaceAll('\u00a0', ' ')"), "Four of twelve banks leave EUR 1.49 billion unpaid")
+        said = lambda: self.js(
+            "return [...document.querySelectorAll('#summary li')].map(e => e.textContent.replaceAll('\u00a0', ' '))"
+        )
+        self.assertEqual(
+            said(),
+            [
+                (
+                    "Four of twelve banks cannot pay all they owe: EUR 1.49 billion of EUR 9.75 billion stays unpaid,"
+                    " 15.3%."
+                ),
+                (
+                    "Dunmore and Isar could not pay even if all their debtors paid in full; Elbe and Birk could (label:"
+                    " contagion)."
+                ),
+                (
+                    "EUR 113 million more lets Birk pay in full, the least of the four; Dunmore needs EUR 700 million,"
+                    " and that takes EUR 1.06 billion of unpaid debt away, the most for each EUR (1.51)."
+                ),
+                (
+                    "In the worst of three scenarios, \u201cthree quarters are lost and Isar loses all\u201d, the same"
+                    " four banks default and EUR 6.61 billion stays unpaid."
+                ),
+                "The next bank in default is Jura, at a cut of 89.1% of all cash; then Fjord, at 94.1%.",
+            ],
+        )
+        self.assertEqual(
+            self.js("return document.querySelector('h1').textContent.replaceAll('\u00a0', ' ')"),
+            "Four of twelve banks leave EUR 1.49 billion unpaid",
+        )
         self.open(files_of(ROOT / "examples/gridlock"))
-        self.assertEqual(said()[1], "A, B and C are in default at the least payments alone (gridlock); greater payments, by 300 units in all, would clear too.")
-        self.open(["--banks", self.file("b.csv", "name,cash,rule\nA,3,order\n"), "--debts", self.file("d.csv", "debtor,creditor,class,claim\n")])
-        self.assertEqual(said(), ["None of one bank is in default: it pays all it owes, 0 units in all.", "A keeps the least, 3 units.",
-                                  "No bank needs a rescue.", "No scenario was given.", "No other bank falls at any cut of all cash."])
+        self.assertEqual(
+            said()[1],
+            (
+                "A, B and C are in default at the least payments alone (gridlock); greater payments, by 300 units in"
+                " all, would clear too."
+            ),
+        )
+        self.open(
+            [
+                "--banks",
+                self.file("b.csv", "name,cash,rule\nA,3,order\n"),
+                "--debts",
+                self.file("d.csv", "debtor,creditor,class,claim\n"),
+            ]
+        )
+        self.assertEqual(
+            said(),
+            [
+                "None of one bank is in default: it pays all it owes, 0 units in all.",
+                "A keeps the least, 3 units.",
+                "No bank needs a rescue.",
+                "No scenario was given.",
+                "No other bank falls at any cut of all cash.",
+            ],
+        )

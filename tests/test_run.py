@@ -7,13 +7,20 @@ from common import ROOT, Case
 
 GOOD = "import unittest\n\nclass Good(unittest.TestCase):\n    def test_good(self):\n        pass\n"
 SKIPPED = GOOD + '\n    @unittest.skip("no moon")\n    def test_moon(self):\n        pass\n'
-BAD = GOOD + "\n    def test_bad(self):\n        for at in range(3):\n            with self.subTest(at=at):\n                self.assertEqual(at, 0)\n"
-SKIPPED_IN_PARTS = GOOD + """
+BAD = (
+    GOOD
+    + "\n    def test_bad(self):\n        for at in range(3):\n            with self.subTest(at=at):\n               "
+    " self.assertEqual(at, 0)\n"
+)
+SKIPPED_IN_PARTS = (
+    GOOD
+    + """
     def test_tides(self):
         for sea in ("a.b", "c: d"):
             with self.subTest(sea=sea):
                 self.skipTest("no moon")
 """
+)
 SKIPPED_CLASS = """import unittest
 class Good(unittest.TestCase):
     @classmethod
@@ -23,7 +30,10 @@ class Good(unittest.TestCase):
     def test_a(self):
         pass
 """
-OF_CLASS = "import unittest\n\nclass Bad(unittest.TestCase):\n    @classmethod\n    def setUpClass(cls):\n        raise OSError\n\n    def test_a(self):\n        pass\n"
+OF_CLASS = (
+    "import unittest\n\nclass Bad(unittest.TestCase):\n    @classmethod\n    def setUpClass(cls):\n        raise"
+    " OSError\n\n    def test_a(self):\n        pass\n"
+)
 BROKEN = "import no_such_module\n"
 GONE = "import os\nos._exit(3)\n"
 
@@ -42,8 +52,12 @@ class Run(Case):
         for name, text in modules.items():
             self.file(f"test_{name}.py", text)
         environment = {**os.environ, "PYTHONDONTWRITEBYTECODE": "1"}
-        done = subprocess.run([sys.executable, str(self.folder / "run.py"), *map(str, words)], env=environment, capture_output=True,
-                              encoding="utf-8")
+        done = subprocess.run(
+            [sys.executable, str(self.folder / "run.py"), *map(str, words)],
+            env=environment,
+            capture_output=True,
+            encoding="utf-8",
+        )
         return done.returncode, done.stdout.splitlines()
 
     def test_a_skip_is_no_failure_and_has_its_reason(self):

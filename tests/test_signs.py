@@ -1,4 +1,5 @@
-"""Names cannot lie: signs that are not seen stand as codes in messages, pictures and the report, and lint tells of them."""
+"""Names cannot lie: signs that are not seen stand as codes in messages, pictures and the report, and lint tells of
+them."""
 import re
 import sys
 import unicodedata
@@ -23,7 +24,11 @@ class Signs(Case):
         for code in [*range(0xD800), *range(0xE000, 0x110000)]:
             sign = chr(code)
             kind = unicodedata.category(sign)
-            unseen = sign not in SEEN and sign != "\n" and (kind in ("Cc", "Cf", "Zl", "Zp") or (kind == "Zs" and sign != " "))
+            unseen = (
+                sign not in SEEN
+                and sign != "\n"
+                and (kind in ("Cc", "Cf", "Zl", "Zp") or (kind == "Zs" and sign != " "))
+            )
             if unseen:
                 self.assertEqual(shown(sign), f"<U+{code:04X}>")
             elif kind[0] in "LNPS" and sign not in "\u115f\u1160\u2800\u3164\uffa0":
@@ -43,7 +48,12 @@ class Signs(Case):
 
     def test_messages_have_no_such_sign(self):
         name = self.folder / "bank\u202evsc.s\u200b"
-        for words in (["clearing-lint"], ["clearing-tidy"], ["clearing-impact"], ["clearing-report", "--out", self.folder / "r.html"]):
+        for words in (
+            ["clearing-lint"],
+            ["clearing-tidy"],
+            ["clearing-impact"],
+            ["clearing-report", "--out", self.folder / "r.html"],
+        ):
             python = python_with("jinja2") if words[0] == "clearing-report" else None
             done = tool(words[0], "--banks", name, "--debts", name, *words[1:], python=python)
             self.assertNotEqual(done.returncode, 0)
@@ -51,11 +61,27 @@ class Signs(Case):
             self.assertRegex(done.stderr, r"<U\+202E>|\\u202e", words)
 
     def test_lint_warns_of_names_that_mislead(self):
-        banks = ["A,1,order", "A\u200b,1,order", "P\u0430ris,1,order", "A b,1,order", "A  b,1,order", "\u6f22 Bank,1,order", "\u05d1\u05e0\u05e7,1,order",
-                 "Cr\u00e9dit,1,order", "Cre\u0301dit,1,order", "\u03a9 Bank,1,order", "B\u202eC,1,order", "\u30ab\u30ca\u3068\u6f22,1,equal"]
+        banks = [
+            "A,1,order",
+            "A\u200b,1,order",
+            "P\u0430ris,1,order",
+            "A b,1,order",
+            "A  b,1,order",
+            "\u6f22 Bank,1,order",
+            "\u05d1\u05e0\u05e7,1,order",
+            "Cr\u00e9dit,1,order",
+            "Cre\u0301dit,1,order",
+            "\u03a9 Bank,1,order",
+            "B\u202eC,1,order",
+            "\u30ab\u30ca\u3068\u6f22,1,equal",
+        ]
         banks = self.file("b.csv", "name,cash,rule\n" + "\n".join(banks) + "\n")
         debts = self.file("d.csv", "debtor,creditor,class,claim\n")
-        more = ["--scenarios", self.file("s.toml", '[[scenario]]\nname = "x\u2066y"\n')] if sys.version_info >= (3, 11) else []
+        more = (
+            ["--scenarios", self.file("s.toml", '[[scenario]]\nname = "x\u2066y"\n')]
+            if sys.version_info >= (3, 11)
+            else []
+        )
         done = tool("clearing-lint", "--banks", banks, "--debts", debts, *more)
         said = [re.sub(f"^{re.escape(str(self.folder))}/", "", line) for line in done.stdout.splitlines()]
         self.assertEqual((done.returncode, done.stderr), (0, ""))
@@ -68,7 +94,8 @@ class Signs(Case):
             "b.csv line 10 (row 9) name: warning: the names 'Cr\u00e9dit' and 'Cre\u0301dit' look the same",
             "b.csv line 11 (row 10) name: warning: the name '\u03a9 Bank' has letters of Greek and Latin",
             "b.csv line 12 (row 11) name: warning: the name 'B<U+202E>C' has U+202E, which is not seen",
-            *["s.toml line 1 (row 1) name: warning: the name 'x<U+2066>y' has U+2066, which is not seen"] * bool(more)]
+            *["s.toml line 1 (row 1) name: warning: the name 'x<U+2066>y' has U+2066, which is not seen"] * bool(more),
+        ]
         self.assertEqual(said, [*expected, f"no fault, {len(expected)} warnings"])
 
     def test_names_that_differ_look_the_same_only_where_they_do(self):
@@ -80,7 +107,9 @@ class Signs(Case):
         banks = self.file("b.csv", "name,cash,rule\nA\u202eB,1,order\nC\u200b,0,order\n")
         debts = self.file("d.csv", "debtor,creditor,class,claim\nA\u202eB,C\u200b,1,5\n")
         files = ["--banks", banks, "--debts", debts]
-        payments, defaults = self.file("p.csv", self.printed("clear", *files)), self.file("e.csv", self.printed("defaults", *files))
+        payments, defaults = self.file("p.csv", self.printed("clear", *files)), self.file(
+            "e.csv", self.printed("defaults", *files)
+        )
         for form in ("graph", "matrix"):
             svg = self.made("clearing-who-pays", payments, defaults, "--form", form)
             self.assertNotRegex(svg, "[\u202e\u200b]")

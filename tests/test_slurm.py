@@ -1,4 +1,5 @@
-"""Jobs as an array of a Slurm cluster of this machine alone: its daemons run on the loopback, as root, in the test's folder."""
+"""Jobs as an array of a Slurm cluster of this machine alone: its daemons run on the loopback, as root, in the test's
+folder."""
 import os
 import socket
 import subprocess
@@ -52,12 +53,23 @@ class Slurm(Case):
         self.file("key", os.urandom(1024)).chmod(0o400)
         processors = len(os.sched_getaffinity(0))
         text = CONFIGURATION.format(folder=self.folder, ports=free_ports(2), processors=processors)
-        self.environment = {**os.environ, "SLURM_CONF": str(self.file("slurm.conf", text)),
-                            "CLEARING": str(self.file("program", PROGRAM))}
+        self.environment = {
+            **os.environ,
+            "SLURM_CONF": str(self.file("slurm.conf", text)),
+            "CLEARING": str(self.file("program", PROGRAM)),
+        }
         (self.folder / "program").chmod(0o755)
         munge = {name: self.folder / f"munge.{name}" for name in ("socket", "pid", "log", "seed")}
-        self.daemon("munged", "--foreground", "--force", f"--socket={munge['socket']}", f"--key-file={self.folder / 'key'}",
-                    f"--pid-file={munge['pid']}", f"--log-file={munge['log']}", f"--seed-file={munge['seed']}")
+        self.daemon(
+            "munged",
+            "--foreground",
+            "--force",
+            f"--socket={munge['socket']}",
+            f"--key-file={self.folder / 'key'}",
+            f"--pid-file={munge['pid']}",
+            f"--log-file={munge['log']}",
+            f"--seed-file={munge['seed']}",
+        )
         self.until(lambda: munge["socket"].exists())
         self.daemon("slurmctld", "-D", "-i")
         self.daemon("slurmd", "-D", "-N", "localhost")
@@ -78,8 +90,14 @@ class Slurm(Case):
             time.sleep(0.1)
 
     def run_here(self, *words):
-        return subprocess.run([str(word) for word in words], cwd=self.folder, env=self.environment, stdin=subprocess.DEVNULL,
-                              capture_output=True, encoding="utf-8")
+        return subprocess.run(
+            [str(word) for word in words],
+            cwd=self.folder,
+            env=self.environment,
+            stdin=subprocess.DEVNULL,
+            capture_output=True,
+            encoding="utf-8",
+        )
 
     def script(self, *words):
         """The batch script for the jobs, as a file."""

@@ -28,8 +28,26 @@ ROWS = [
     ('"name","cash","rule"\n"A"," 7 ","order"\nB ,\t1,order\n', DEBTS, ""),
     ("\n" + BANKS.replace("\n", "\n\n,,\n"), DEBTS, ""),
     # numbers
-    *((banks_with(f'"{cash}"'), DEBTS, "banks row 1: number (4)") for cash in (
-        "1,000", "1.000", "1'000", "1 000", "1\u00a0000", "7,5", "7.0", "-7", "+7", "1E+06", "€7", "#####", "=3+4", "", "7\u00a0")),
+    *(
+        (banks_with(f'"{cash}"'), DEBTS, "banks row 1: number (4)")
+        for cash in (
+            "1,000",
+            "1.000",
+            "1'000",
+            "1 000",
+            "1\u00a0000",
+            "7,5",
+            "7.0",
+            "-7",
+            "+7",
+            "1E+06",
+            "€7",
+            "#####",
+            "=3+4",
+            "",
+            "7\u00a0",
+        )
+    ),
     (banks_with("1,000"), DEBTS, "banks row 1: fields (2)"),
     (banks_with("7,5"), DEBTS, "banks row 1: fields (2)"),
     (BANKS, HEAD + "A,B,1.0,10\n", "debts row 1: class (10)"),

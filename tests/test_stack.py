@@ -1,6 +1,6 @@
-"""Each task on runs of a million rounds and of five million units in five classes, on a stack of 256 KB, that of its threads too. What
-calls itself once for each round, sweep or unit ends there by a signal. Scenarios that are nested as deep as they may be, and deeper. And
-each task on as much stack as PROVED says that it takes."""
+"""Each task on runs of a million rounds and of five million units in five classes, on a stack of 256 KB, that of its
+threads too. What calls itself once for each round, sweep or unit ends there by a signal. Scenarios that are nested as
+deep as they may be, and deeper. And each task on as much stack as PROVED says that it takes."""
 import json
 import re
 import resource
@@ -27,10 +27,13 @@ SECONDS = 300
 
 
 def to_and_fro(classes):
-    """Two banks that owe each other a million units in each of some classes, of which one has a unit. It goes to and fro until all is
-    paid: a round, and two raises, for each unit. A third bank owes nine units outside, and has nothing."""
+    """Two banks that owe each other a million units in each of some classes, of which one has a unit. It goes to and
+    fro until all is paid: a round, and two raises, for each unit. A third bank owes nine units outside, and has
+    nothing."""
     banks = [model.Bank("A", 1, "order", 0), model.Bank("B", 0, "losses", 0), model.Bank("C", 0, "equal", 9)]
-    return model.Net(banks, [model.Debt(debtor, 1 - debtor, cls, UNITS) for cls in range(1, classes + 1) for debtor in (0, 1)])
+    return model.Net(
+        banks, [model.Debt(debtor, 1 - debtor, cls, UNITS) for cls in range(1, classes + 1) for debtor in (0, 1)]
+    )
 
 
 class Stack(Case):
@@ -38,7 +41,15 @@ class Stack(Case):
         """A run on a small stack. Its environment counts as stack too, so it has none."""
         limit = lambda: resource.setrlimit(resource.RLIMIT_STACK, (stack, stack))
         run = [PROGRAM, *map(str, words)]
-        done = subprocess.run(run, stdin=subprocess.DEVNULL, capture_output=True, encoding="utf-8", env=environment, timeout=SECONDS, preexec_fn=limit)
+        done = subprocess.run(
+            run,
+            stdin=subprocess.DEVNULL,
+            capture_output=True,
+            encoding="utf-8",
+            env=environment,
+            timeout=SECONDS,
+            preexec_fn=limit,
+        )
         return done.returncode, done.stdout, done.stderr
 
     def text(self, *words):
@@ -55,7 +66,12 @@ class Stack(Case):
 
     def every_task(self, classes, journal):
         net = to_and_fro(classes)
-        files = ["--banks", self.file("banks.csv", model.banks_text(net, True)), "--debts", self.file("debts.csv", model.debts_text(net))]
+        files = [
+            "--banks",
+            self.file("banks.csv", model.banks_text(net, True)),
+            "--debts",
+            self.file("debts.csv", model.debts_text(net)),
+        ]
         low = [UNITS] * len(net.debts)
         payments, defaults = model.payments_text(net, low), model.defaults_text(net, low)
         self.same(model.check_text(net), "check", *files)
@@ -66,27 +82,60 @@ class Stack(Case):
         self.same(defaults, "defaults", *files)
         scenarios = [f"{number}" for number in range(2)]
         toml = "".join(f"[[scenario]]\nname = {json.dumps(name)}\n" for name in scenarios)
-        self.same("\n".join(f"scenario,{name}\n{payments}{defaults}" for name in scenarios), "stress", *files, "--scenarios", self.file("s.toml", toml))
+        self.same(
+            "\n".join(f"scenario,{name}\n{payments}{defaults}" for name in scenarios),
+            "stress",
+            *files,
+            "--scenarios",
+            self.file("s.toml", toml),
+        )
         with mock.patch.object(model, "least", lambda *_: low):
             self.same(model.costs_text(net, 1000), "costs", *files, "--keep", 1000)
-        lines = "".join(f"{','.join(map(str, model.debt_fields(net, debt)))},{UNITS},{UNITS},{UNITS}\n" for debt in net.debts)
-        self.same(f"debtor,creditor,class,claim,least,greatest\n{lines}\nbank,wave,gridlock,equity\nA,0,no,1\nB,0,no,0\nC,1,no,0\n", "bounds", *files)
+        lines = "".join(
+            f"{','.join(map(str, model.debt_fields(net, debt)))},{UNITS},{UNITS},{UNITS}\n" for debt in net.debts
+        )
+        self.same(
+            f"debtor,creditor,class,claim,least,greatest\n{lines}\n"
+            "bank,wave,gridlock,equity\nA,0,no,1\nB,0,no,0\nC,1,no,0\n",
+            "bounds",
+            *files,
+        )
         self.same(f"rescue,C,9\nshort,1\n\n{payments}", "rescue", *files, "--bank", "C")
         self.same("bank,added,short,also_saved,still_short\nC,9,1,0,0\n\nbank,saves\n", "rescues", *files)
         self.same("bank,cut,state\nA,1000,contagion\nB,1000,contagion\nC,0,fundamental\n", "breaking", *files)
-        self.same("bank,cash,own,others,falls\nA,1,1,0,1\nB,0,0,0,0\nC,0,0,0,0\n\nbank,of,lost,falls\nA,A,1,yes\nA,B,0,yes\n", "impact", *files)
+        self.same(
+            "bank,cash,own,others,falls\nA,1,1,0,1\nB,0,0,0,0\nC,0,0,0,0\n\nbank,of,lost,falls\nA,A,1,yes\nA,B,0,yes\n",
+            "impact",
+            *files,
+        )
         sums = "".join(f"{name},1,{sum(low)},0,1,1,1\n" for name in scenarios)
-        self.same(f"scenario,cash,paid,outside_paid,equity,defaults,fundamental\n{sums}\nbank,defaults,fundamental\nA,0,0\nB,0,0\nC,2,2\n",
-                  "outcomes", *files, "--scenarios", self.file("s.toml", toml))
+        self.same(
+            f"scenario,cash,paid,outside_paid,equity,defaults,fundamental\n{sums}\n"
+            "bank,defaults,fundamental\nA,0,0\nB,0,0\nC,2,2\n",
+            "outcomes",
+            *files,
+            "--scenarios",
+            self.file("s.toml", toml),
+        )
         ends = ",".join(f"{what}_at_{end}" for end in ("least", "greatest") for what in ("lost", "equity", "state"))
-        self.same(f"debtor,creditor,class,claim,least,greatest\n{lines}\nbank,{ends}\nA,0,1,sound,0,1,sound\nB,0,0,sound,0,0,sound\n"
-                  "C,0,0,fundamental,0,0,fundamental\n", "cost-bounds", *files, "--keep", 1000)
+        self.same(
+            (
+                f"debtor,creditor,class,claim,least,greatest\n{lines}\nbank,{ends}\n"
+                "A,0,1,sound,0,1,sound\nB,0,0,sound,0,0,sound\nC,0,0,fundamental,0,0,fundamental\n"
+            ),
+            "cost-bounds",
+            *files,
+            "--keep",
+            1000,
+        )
         with self.subTest(task="compress"):
             self.assertIsNone(judge_compression(net, self.text("compress", *files)))
         if journal:
             shown = self.text("clear", *files, "--show", "journal", "--workers", 1)
             self.assertTrue(shown.endswith(f"\nrounds,{UNITS + 1}\n"), shown[-100:])
-            self.same(f"lawful,{2 * UNITS}\n\n{payments}", "replay", *files, "--journal", self.file("journal.csv", shown))
+            self.same(
+                f"lawful,{2 * UNITS}\n\n{payments}", "replay", *files, "--journal", self.file("journal.csv", shown)
+            )
 
     def test_a_million_rounds(self):
         self.every_task(1, True)
@@ -101,7 +150,14 @@ class Stack(Case):
     def said(self):
         """The bytes that PROVED says of the main thread, a thread, and the deepest scenarios."""
         text = (ROOT / "docs/PROVED.md").read_text(encoding="utf-8")
-        found = re.search(r"the main thread takes ([0-9,]+) KB at most .*?\bA thread takes ([0-9,]+) KB,.*? The deepest scenarios take ([0-9,]+) KB", text, re.DOTALL)
+        found = re.search(
+            (
+                r"the main thread takes ([0-9,]+) KB at most .*?\bA thread takes ([0-9,]+) KB,.*? The deepest scenarios"
+                r" take ([0-9,]+) KB"
+            ),
+            text,
+            re.DOTALL,
+        )
         return [int(number.replace(",", "")) * 1024 for number in found.groups()]
 
     def tasks(self):
@@ -109,8 +165,15 @@ class Stack(Case):
         files = files_of(TWELVE)
         journal = self.file("journal.csv", clearing("clear", *files, "--show", "journal", "--workers", 1).stdout)
         scenarios = ["--scenarios", TWELVE / "scenarios.toml"]
-        for words in [["check"], ["convert"], ["central"], ["compress"], ["costs", "--keep", 500], ["cost-bounds", "--keep", 500],
-                      ["replay", "--journal", journal]]:
+        for words in [
+            ["check"],
+            ["convert"],
+            ["central"],
+            ["compress"],
+            ["costs", "--keep", 500],
+            ["cost-bounds", "--keep", 500],
+            ["replay", "--journal", journal],
+        ]:
             yield [words[0], *files, *words[1:]], False
         for words in [["breaking"], ["impact"], ["rescues"], ["outcomes", *scenarios]]:
             yield [words[0], *files, *words[1:]], True
@@ -137,18 +200,41 @@ class Stack(Case):
     @needs("cc")
     def test_what_is_said_of_the_stack_of_a_thread_is_enough(self):
         least = self.folder / "small.so"
-        subprocess.run(["cc", "-shared", "-fPIC", f"-DKILOBYTES={self.said()[1] // 1024}", "-o", least, ROOT / "tests/system/small.c", "-ldl"], check=True)
+        subprocess.run(
+            [
+                "cc",
+                "-shared",
+                "-fPIC",
+                f"-DKILOBYTES={self.said()[1] // 1024}",
+                "-o",
+                least,
+                ROOT / "tests/system/small.c",
+                "-ldl",
+            ],
+            check=True,
+        )
         for words, starts_threads in self.tasks():
             if starts_threads:
                 told = clearing(*words)
-                self.assertEqual(self.ended(*words, environment={"LD_PRELOAD": str(least)}), (0, told.stdout.decode(), ""), words)
+                self.assertEqual(
+                    self.ended(*words, environment={"LD_PRELOAD": str(least)}), (0, told.stdout.decode(), ""), words
+                )
 
     def test_scenarios_that_are_nested_deep(self):
-        files = ["--banks", self.file("banks.csv", "name,cash,rule\n"), "--debts", self.file("debts.csv", "debtor,creditor,class,claim\n")]
+        files = [
+            "--banks",
+            self.file("banks.csv", "name,cash,rule\n"),
+            "--debts",
+            self.file("debts.csv", "debtor,creditor,class,claim\n"),
+        ]
         # A key has at most 80 parts, each a table in the one before it, and 80 values stand in one another at most.
         key, array = ".".join(["a"] * 80), "[" * 80 + "]" * 80
         tables = "{" + " = {".join([key] * 80) + " = 1" + "}" * 80
-        cases = [(f"{key} = {array}", STACK, "shape (17)"), (f"[{key}]\na = {array}", STACK, "shape (17)"), (f"[{key}]\n{key} = {tables}", DEEP_STACK, "shape (17)")]
+        cases = [
+            (f"{key} = {array}", STACK, "shape (17)"),
+            (f"[{key}]\na = {array}", STACK, "shape (17)"),
+            (f"[{key}]\n{key} = {tables}", DEEP_STACK, "shape (17)"),
+        ]
         deeper = [f"a = [{array}]", "a = " + "[" * 4_000_000, "a = " + "{a = " * 1_600_000]
         deeper += [f"{key}.a = 1", "a." * 4_000_000 + "a = 1", "[" + "a." * 4_000_000 + "a]"]
         for text, stack, kind in [*cases, *((text, STACK, "toml (16)") for text in deeper)]:

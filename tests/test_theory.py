@@ -14,7 +14,7 @@ TEXT = (ROOT / "docs/THEORY.md").read_text(encoding="utf-8")
 
 def table_below(words):
     """The rows of the first table below some words, cell by cell."""
-    rows = re.search(r"\n\|.*?\n\|[-|]*\n((?:\|.*\n)+)", TEXT[TEXT.index(words):])[1]
+    rows = re.search(r"\n\|.*?\n\|[-|]*\n((?:\|.*\n)+)", TEXT[TEXT.index(words) :])[1]
     return [[cell.strip(" `") for cell in row.strip("|").split("|")] for row in rows.splitlines()]
 
 
@@ -26,7 +26,12 @@ class Paper(unittest.TestCase):
         self.assertEqual(page_run(TEXT).splitlines(), TEXT.splitlines())
 
     def test_its_rounds_are_those_of_the_plain_model(self):
-        banks = [Bank("A", 3, "webster", 0), Bank("B", 1, "equal", 0), Bank("C", 0, "order", 0), Bank("D", 0, "order", 0)]
+        banks = [
+            Bank("A", 3, "webster", 0),
+            Bank("B", 1, "equal", 0),
+            Bank("C", 0, "order", 0),
+            Bank("D", 0, "order", 0),
+        ]
         owed = [(0, 1, 1, 6), (0, 2, 1, 3), (1, 2, 1, 4), (1, 3, 1, 4), (2, 0, 1, 5), (2, 3, 2, 2)]
         net = Net(banks, [Debt(*debt) for debt in owed])
         paid = [0] * len(owed)

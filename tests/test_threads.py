@@ -1,5 +1,5 @@
-"""How many threads the workers of a run have, and the scenarios of a stress test, on networks with debts: counted from outside, by a
-library that is loaded before the program and counts each start of a thread."""
+"""How many threads the workers of a run have, and the scenarios of a stress test, on networks with debts: counted
+from outside, by a library that is loaded before the program and counts each start of a thread."""
 import os
 import pathlib
 import subprocess
@@ -42,12 +42,18 @@ class Threads(Case):
 
     def test_each_worker_has_a_thread_in_the_first_round(self):
         files = files_of(TWELVE)
-        for words in (["clear", *files], ["defaults", *files], ["bounds", *files], ["rescue", *files, "--bank", self.a_bank()], LARGEST):
+        for words in (
+            ["clear", *files],
+            ["defaults", *files],
+            ["bounds", *files],
+            ["rescue", *files, "--bank", self.a_bank()],
+            LARGEST,
+        ):
             for workers in (1, 2, 4, 9, 64):
                 with self.subTest(words=list(map(str, words)), workers=workers):
                     started = self.started(*words, "--workers", workers)
-                    # The calling thread is one of them. A later round may have as many again, and one more, by which the
-                    # raises of the round before are merged meanwhile.
+                    # The calling thread is one of them. A later round may have as many again, and one more, by which
+                    # the raises of the round before are merged meanwhile.
                     later = started - (workers - 1)
                     rounds = -(-later // workers)
                     self.assertGreaterEqual(later, rounds * (workers - 1))
@@ -91,8 +97,12 @@ class Threads(Case):
         """The files of so many banks without cash, of which the first of each of some pairs owes the second a unit."""
         names = "".join(f"N{bank},0,order\n" for bank in range(banks))
         debts = "".join(f"N{2 * pair},N{2 * pair + 1},1,1\n" for pair in range(pairs))
-        return ["--banks", self.file("banks.csv", f"name,cash,rule\n{names}"),
-                "--debts", self.file("debts.csv", f"debtor,creditor,class,claim\n{debts}")]
+        return [
+            "--banks",
+            self.file("banks.csv", f"name,cash,rule\n{names}"),
+            "--debts",
+            self.file("debts.csv", f"debtor,creditor,class,claim\n{debts}"),
+        ]
 
     @staticmethod
     def a_bank():

@@ -124,7 +124,10 @@ class OneFile(Case):
                 for number, line in enumerate(path.read_text(encoding="utf-8").split("\n"), 1):
                     if (
                         re.search(
-                            r"#(?:[0-9a-fA-F]{6}|[0-9a-fA-F]{3})\b(?!;)|\brgba?\((?!0 0 0 /)|\bhsl\(|sans-serif|system-ui",
+                            (
+                                r"#(?:[0-9a-fA-F]{6}|[0-9a-fA-F]{3})\b(?!;)|\brgba?\((?!0 0 0"
+                                r" /)|\bhsl\(|sans-serif|system-ui"
+                            ),
                             line,
                         )
                         and "favicon" not in line

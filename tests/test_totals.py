@@ -26,7 +26,13 @@ class Words(Case):
         script.chmod(0o755)
         done = tool("clearing-from-totals", self.file("t.csv", TABLE), "--out", self.folder / "out", python=str(script))
         self.assertEqual((done.returncode, done.stdout), (2, ""))
-        self.assertRegex(done.stderr, r"clearing-from-totals: /.* has no numpy \(Debian's package python3-numpy is for /usr/bin/python3 .*FILE\.whl\[all\]'\)")
+        self.assertRegex(
+            done.stderr,
+            (
+                r"clearing-from-totals: /.* has no numpy \(Debian's package python3-numpy is for /usr/bin/python3"
+                r" .*FILE\.whl\[all\]'\)"
+            ),
+        )
 
     def test_a_stray_quote_is_refused_with_its_row(self):
         for row, text in [(6, TABLE + 'E,7,7,"1\nF,8,8,2\n'), (3, TABLE.replace("B,", '"B" (Ost),'))]:
@@ -81,8 +87,10 @@ class Words(Case):
         )
         table = self.file(
             "t.csv",
-            "bank,assets,liabilities,cash,outside,Outside,rule,Rule\nA,5,7,1,1,1,order,equal\n"
-            "B,7,5,2,0,0,equal,order\n",
+            (
+                "bank,assets,liabilities,cash,outside,Outside,rule,Rule\nA,5,7,1,1,1,order,equal\n"
+                "B,7,5,2,0,0,equal,order\n"
+            ),
         )
         for option, column in [("outside", "Outside"), ("rule-column", "Rule")]:
             told = (
@@ -380,8 +388,10 @@ class Totals(Case):
         ):
             table = f"{head}AT,700,600,10\nBE,300,400,20\nCH,500,500,0\nAll countries,{all_}\n"
             self.refuse(
-                "row 5: All countries is a row of totals: each of its cells is the sum of the others but for what is "
-                "told below",
+                (
+                    "row 5: All countries is a row of totals: each of its cells is the sum of the others but for what"
+                    " is told below"
+                ),
                 table,
             )
             told = (
@@ -473,9 +483,10 @@ class Totals(Case):
         head = "bank,assets,liabilities,cash\n"
         told = self.made_of(head + "A,25,10,1\nB,15,20,1\n")
         self.assertIn(
-            "banks for those who are not in the file: 1; 10 in all; rest of the world owes the others 10, and has as "
-            "much cash, "
-            "since liabilities come to 30 and assets to 40\n",
+            (
+                "banks for those who are not in the file: 1; 10 in all; rest of the world owes the others 10, and has"
+                " as much cash, since liabilities come to 30 and assets to 40\n"
+            ),
             told,
         )
         self.assertEqual(
@@ -522,8 +533,10 @@ class Totals(Case):
         self.assertNotIn("limits:", told)
         self.assertRegex(
             told,
-            "claims left out by --most: 306; [0-9,]+ in all; the largest [0-9]+; the others are fitted to the same "
-            "totals\n",
+            (
+                "claims left out by --most: 306; [0-9,]+ in all; the largest [0-9]+; the others are fitted to the same "
+                "totals\n"
+            ),
         )
         told = self.made_of(TABLE, "--most", 8)
         self.assertLessEqual(len(self.debts()), 8)
@@ -554,7 +567,18 @@ class Kept(Case):
         sheet = self.file("big.csv", TABLE.replace("D,30", "D" + " " * 9_000_000 + ",30"))
         for more, folders in (([], ["one"]), (["--samples", 2], ["two/1", "two/2"])):
             place = self.folder / folders[0].partition("/")[0]
-            self.told("clearing-from-totals", sheet, "--method", "sparse", "--case", place, "--keep-sources", "--limits", "standard", *more)
+            self.told(
+                "clearing-from-totals",
+                sheet,
+                "--method",
+                "sparse",
+                "--case",
+                place,
+                "--keep-sources",
+                "--limits",
+                "standard",
+                *more,
+            )
             for folder in folders:
                 self.assertEqual((self.folder / folder / "sources/big.csv").read_bytes(), sheet.read_bytes())
 

@@ -1,5 +1,6 @@
-"""What stands twice in the packages. `clearing_tools.runner` and its modules stand alone, so that evidence can be judged, and
-`clearing_client` stands on no tools: so a few functions are in both, word by word. No other function stands twice, and what each of them is for is made nowhere anew."""
+"""What stands twice in the packages. `clearing_tools.runner` and its modules stand alone, so that evidence can be
+judged, and `clearing_client` stands on no tools: so a few functions are in both, word by word. No other function
+stands twice, and what each of them is for is made nowhere anew."""
 import ast
 import collections
 import re
@@ -17,7 +18,10 @@ BOTH = {
 ALONE = {
     # The desk has a tool run on few processors.
     r"\bcpu_count\(|sched_getaffinity\(|SC_NPROCESSORS": {
-        "program.py: processors", "running.py: processors", "takeaway.py: run_tool"},
+        "program.py: processors",
+        "running.py: processors",
+        "takeaway.py: run_tool",
+    },
     r"get_exec_path\(": {"program.py: on_path", "finding.py: on_path"},
     # Of bytes that are there the module is called at once.
     r"hashlib\.sha256\(\)": {"finding.py: digest_of", "case.py: hash_in", "parts.py: checksum_of"},
@@ -26,12 +30,15 @@ ALONE = {
 
 
 def functions():
-    """The functions of the packages: the file, the name, the tree of the body and the text, both without what the function is for."""
+    """The functions of the packages: the file, the name, the tree of the body and the text, both without what the
+    function is for."""
     for path in sorted(PACKAGES.rglob("*.py")):
         for node in ast.walk(ast.parse(path.read_text(encoding="utf-8"))):
             if isinstance(node, ast.FunctionDef):
                 body = node.body[1:] if ast.get_docstring(node) else node.body
-                yield str(path.relative_to(PACKAGES)), node.name, "\n".join(map(ast.dump, body)), "\n".join(map(ast.unparse, body))
+                yield str(path.relative_to(PACKAGES)), node.name, "\n".join(map(ast.dump, body)), "\n".join(
+                    map(ast.unparse, body)
+                )
 
 
 class Twice(unittest.TestCase):

@@ -10,12 +10,97 @@ from common import ODD_NAMES, PROGRAM, ROOT, Case, all_names, needs_checkout, to
 from clearing_tools.checks import why  # noqa: E402
 
 LINES = 3000
-VALUES = ["none.csv", "", "-", "-x", "--", "--banks", "0", "1", "7", "64", "65", "1000", "1001", "20000", "20001", "007", "1" * 20, "1" * 21, "18446744073709551615",
-          "18446744073709551616", "+1", "-1", "1.0", " 1", "1 ", "٣", "both", "payments", "Journal", "journals", "x" * 64, "x" * 65, "é" * 33, "a,b", 'a"b', "a\nb", "\x7f",
-          "\u0085", "standard", "wide", "Wide", "A=B", "=", "=x", " ", "none with blanks", "$HOME", "check", "gen"]
-GOOD = {"bank": "A", "show": "both", "workers": "2", "sweeps": "3", "seed": "1", "size": "3", "tries": "4", "keep": "5", "limits": "wide"}
-STRAY = ["--", "-", "", "-b", "--help", "-h", "--version", "--bankz", "--Banks", "--ban", "---banks", "--banks=", "--=x", "-banks", "check", "x", "--workers", "--show=both", "help",
-         "--no-banks", "--banks none.csv", "—banks", "-1", "\udcff", "a\udc80b", "--banks=\udcff", "--\udcff=1"]
+VALUES = [
+    "none.csv",
+    "",
+    "-",
+    "-x",
+    "--",
+    "--banks",
+    "0",
+    "1",
+    "7",
+    "64",
+    "65",
+    "1000",
+    "1001",
+    "20000",
+    "20001",
+    "007",
+    "1" * 20,
+    "1" * 21,
+    "18446744073709551615",
+    "18446744073709551616",
+    "+1",
+    "-1",
+    "1.0",
+    " 1",
+    "1 ",
+    "٣",
+    "both",
+    "payments",
+    "Journal",
+    "journals",
+    "x" * 64,
+    "x" * 65,
+    "é" * 33,
+    "a,b",
+    'a"b',
+    "a\nb",
+    "\x7f",
+    "\u0085",
+    "standard",
+    "wide",
+    "Wide",
+    "A=B",
+    "=",
+    "=x",
+    " ",
+    "none with blanks",
+    "$HOME",
+    "check",
+    "gen",
+]
+GOOD = {
+    "bank": "A",
+    "show": "both",
+    "workers": "2",
+    "sweeps": "3",
+    "seed": "1",
+    "size": "3",
+    "tries": "4",
+    "keep": "5",
+    "limits": "wide",
+}
+STRAY = [
+    "--",
+    "-",
+    "",
+    "-b",
+    "--help",
+    "-h",
+    "--version",
+    "--bankz",
+    "--Banks",
+    "--ban",
+    "---banks",
+    "--banks=",
+    "--=x",
+    "-banks",
+    "check",
+    "x",
+    "--workers",
+    "--show=both",
+    "help",
+    "--no-banks",
+    "--banks none.csv",
+    "—banks",
+    "-1",
+    "\udcff",
+    "a\udc80b",
+    "--banks=\udcff",
+    "--\udcff=1",
+]
 
 
 class MadeLines:
@@ -84,7 +169,11 @@ class Why(Case):
             task = next(task for task, uses in why.TASKS.items() if option in uses[0] + uses[1])
             others = [f"--{name}={GOOD.get(name, 'none.csv')}" for name in why.TASKS[task][0] if name != option]
             for value in VALUES:
-                lines += [[task, *others, f"--{option}={value}"], [f"--{option}", value, task, *others], [task, *others, f"--{option}", value]]
+                lines += [
+                    [task, *others, f"--{option}={value}"],
+                    [f"--{option}", value, task, *others],
+                    [task, *others, f"--{option}", value],
+                ]
         self.compare(lines)
 
     def test_each_option_of_each_task_is_judged_as_the_program_does(self):
@@ -92,7 +181,11 @@ class Why(Case):
         for task, (required, allowed) in why.TASKS.items():
             whole = [f"--{name}={GOOD.get(name, 'none.csv')}" for name in required]
             lines += [[task, *whole], [*whole], *([task, *whole[:at], *whole[at + 1 :]] for at in range(len(whole)))]
-            lines += [[task, *whole, f"--{option}={GOOD.get(option, 'none.csv')}"] for option in why.OPTIONS if option not in required]
+            lines += [
+                [task, *whole, f"--{option}={GOOD.get(option, 'none.csv')}"]
+                for option in why.OPTIONS
+                if option not in required
+            ]
         self.compare(lines)
 
     @needs_checkout
@@ -115,41 +208,102 @@ class Why(Case):
 
     def test_faults_have_their_word_and_a_hint(self):
         for line, lines in [
-            ("clearing stress --banks b --debts d --scenario s", ["word 7 '--scenario': there is no option --scenario; is it --scenarios?", "stress requires --scenarios", "2 faults"]),
-            ("./clearing clera --banks b --debts d", ["word 2 'clera': there is no task 'clera'; is it clear?", "1 fault"]),
-            ("clear --banks b --debts d --show all", ["word 7 'all': 'all' is no value of --show: it is one of payments, journal, both", "1 fault"]),
-            ("clear --banks b --debts d --keep=5", ["word 6 '--keep=5': clear has no option --keep; it is of costs, cost-bounds", "1 fault"]),
-            ("gen --seed 1 --size 1,000 --tries -5", ["word 5 '1,000': '1,000' is no value of --size: a number is 1 to 20 digits 0 to 9, and nothing else",
-                                                   "word 6 '--tries': --tries has no value; a value does not begin with a dash", "word 7 '-5': there are no options of one dash", "3 faults"]),
-            ("rescue --banks b --debts d --bank Bank Two", ["word 8 'Two': the task is 'rescue' already, and it is the only word that is no option; a value with a blank in it stands between quotes", "1 fault"]),
-            ("check --banks a --banks b --debts d", ["word 4 '--banks': --banks stands in word 2 already; an option is given once", "1 fault"]),
-            ("--help --banks b", ["word 1 '--help': there is no option --help; docs/FORMATS.md and the manual page say what there is",
-                                  "there is no task; the tasks are " + ", ".join(why.TASKS), "2 faults"]),
+            (
+                "clearing stress --banks b --debts d --scenario s",
+                [
+                    "word 7 '--scenario': there is no option --scenario; is it --scenarios?",
+                    "stress requires --scenarios",
+                    "2 faults",
+                ],
+            ),
+            (
+                "./clearing clera --banks b --debts d",
+                ["word 2 'clera': there is no task 'clera'; is it clear?", "1 fault"],
+            ),
+            (
+                "clear --banks b --debts d --show all",
+                ["word 7 'all': 'all' is no value of --show: it is one of payments, journal, both", "1 fault"],
+            ),
+            (
+                "clear --banks b --debts d --keep=5",
+                ["word 6 '--keep=5': clear has no option --keep; it is of costs, cost-bounds", "1 fault"],
+            ),
+            (
+                "gen --seed 1 --size 1,000 --tries -5",
+                [
+                    (
+                        "word 5 '1,000': '1,000' is no value of --size: a number is 1 to 20 digits 0 to 9, and nothing"
+                        " else"
+                    ),
+                    "word 6 '--tries': --tries has no value; a value does not begin with a dash",
+                    "word 7 '-5': there are no options of one dash",
+                    "3 faults",
+                ],
+            ),
+            (
+                "rescue --banks b --debts d --bank Bank Two",
+                [
+                    (
+                        "word 8 'Two': the task is 'rescue' already, and it is the only word that is no option; a value"
+                        " with a blank in it stands between quotes"
+                    ),
+                    "1 fault",
+                ],
+            ),
+            (
+                "check --banks a --banks b --debts d",
+                ["word 4 '--banks': --banks stands in word 2 already; an option is given once", "1 fault"],
+            ),
+            (
+                "--help --banks b",
+                [
+                    "word 1 '--help': there is no option --help; docs/FORMATS.md and the manual page say what there is",
+                    "there is no task; the tasks are " + ", ".join(why.TASKS),
+                    "2 faults",
+                ],
+            ),
             ("clear --debts d --banks b", ["understood: the task clear"]),
             ("check --debts d --banks b --limits wide", ["understood: the task check"]),
-            ("check --banks b --debts d --limits big", ["word 7 'big': 'big' is no value of --limits: it is one of standard, wide", "1 fault"]),
-            ("gen --seed 1 --size 3 --tries 4 --limits wide", [
-                "word 8 '--limits': gen has no option --limits; it is of " + ", ".join(task for task in why.TASKS if task != "gen"), "1 fault"]),
+            (
+                "check --banks b --debts d --limits big",
+                ["word 7 'big': 'big' is no value of --limits: it is one of standard, wide", "1 fault"],
+            ),
+            (
+                "gen --seed 1 --size 3 --tries 4 --limits wide",
+                [
+                    "word 8 '--limits': gen has no option --limits; it is of "
+                    + ", ".join(task for task in why.TASKS if task != "gen"),
+                    "1 fault",
+                ],
+            ),
         ]:
             done = tool("clearing-why", *line.split(" "))
             self.assertEqual((done.stdout.splitlines(), done.stderr), (lines, ""))
             self.assertEqual(done.returncode, 0 if lines[-1].startswith("understood") else 1)
         self.assertEqual(why.faults_of(["clear", "\udcff"])[0], (2, "it is not UTF-8"))
-        self.assertEqual(why.faults_of(["check", "--banks", "a\udc80", "--debts", "d"]), [(3, "the value of --banks is not UTF-8")])
+        self.assertEqual(
+            why.faults_of(["check", "--banks", "a\udc80", "--debts", "d"]), [(3, "the value of --banks is not UTF-8")]
+        )
         self.assertEqual(tool("clearing-why").returncode, 2)
-        self.assertTrue(tool("clearing-why", "--help").stdout.startswith("usage: clearing-why WORDS..\n\nSays which word"))
+        self.assertTrue(
+            tool("clearing-why", "--help").stdout.startswith("usage: clearing-why WORDS..\n\nSays which word")
+        )
 
     def test_an_output_that_cannot_be_written_is_said(self):
         for words in (["check", "--bankz", "b"], ["check", "--banks", "b", "--debts", "d"], ["--help"]):
             run = [sys.executable, str(ROOT / "bin/clearing-why"), *words]
             with open("/dev/full", "wb") as full:
                 done = subprocess.run(run, stdout=full, stderr=subprocess.PIPE, encoding="utf-8")
-            self.assertEqual((done.returncode, done.stderr), (5, "clearing-why: cannot write the output: No space left on device\n"))
+            self.assertEqual(
+                (done.returncode, done.stderr), (5, "clearing-why: cannot write the output: No space left on device\n")
+            )
             reading, writing = os.pipe()
             os.close(reading)
             done = subprocess.run(run, stdout=writing, stderr=subprocess.PIPE, encoding="utf-8")
             os.close(writing)
-            self.assertEqual((done.returncode, done.stderr), (5, "clearing-why: cannot write the output: Broken pipe\n"))
+            self.assertEqual(
+                (done.returncode, done.stderr), (5, "clearing-why: cannot write the output: Broken pipe\n")
+            )
 
     def test_names_of_every_character_are_taken(self):
         names = ODD_NAMES + list(all_names(last=0xFFFF, step=17))

@@ -86,7 +86,16 @@ class Words(unittest.TestCase):
 
     def test_nothing_says_that_what_is_printed_is_proved(self):
         """The computation is proved. That the program reads the files and writes its output rightly is tested."""
-        kinds = ("*.md", "*.cff", "docs/*.*", "tools/*.sh", "tools/dev/*.sh", "r/DESCRIPTION", "r/man/*.Rd", "r/vignettes/*")
+        kinds = (
+            "*.md",
+            "*.cff",
+            "docs/*.*",
+            "tools/*.sh",
+            "tools/dev/*.sh",
+            "r/DESCRIPTION",
+            "r/man/*.Rd",
+            "r/vignettes/*",
+        )
         kinds += ("python/*.md", "python/src/**/*.py")
         pages = [path for kind in kinds for path in sorted(ROOT.glob(kind)) if path.suffix not in (".svg", ".png")]
         proved = r"(?i)\b(results?|answers?|prints|outputs?|texts?) (?:is|are) proved\b"

@@ -106,8 +106,10 @@ class Workbooks(Case):
         change = "book['S']['C2'].number_format = '[$€-407] #,##0.00'; book['S']['D2'].number_format = '[$$-409]#,##0'"
         book = written(self.folder / "m.xlsx", {"S": MATRIX}, change)
         self.refuse(
-            f"{book} sheet S D2 (column C): '4' is of another currency than '6': $, not EUR; convert all amounts to "
-            "one",
+            (
+                f"{book} sheet S D2 (column C): '4' is of another currency than '6': $, not EUR; convert all amounts"
+                " to one"
+            ),
             book,
         )
 
@@ -174,8 +176,10 @@ class Workbooks(Case):
                     self.assertIn("debts made: 6; 129,023.75 in all; in units of 0.25: 516,095\n", told)
                     self.check(
                         "name,cash,rule\nCrédit,4000,webster\nB,8000,webster\nC,49380,webster\n",
-                        "debtor,creditor,class,claim\nCrédit,B,1,493827\nCrédit,C,1,2\nB,Crédit,1,17285\nB,C,1,28\n"
-                        "C,Crédit,1,4938\nC,B,1,15\n",
+                        (
+                            "debtor,creditor,class,claim\nCrédit,B,1,493827\nCrédit,C,1,2\nB,Crédit,1,17285\nB,C,1,28\n"
+                            "C,Crédit,1,4938\nC,B,1,15\n"
+                        ),
                     )
 
     def test_a_date_that_is_not_looked_at_is_no_fault(self):

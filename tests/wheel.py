@@ -1,11 +1,11 @@
 #!/usr/bin/env python3
-"""Runs the tests against an installed wheel that has the program: `tools/dev/test.sh --wheel FILE`, with further words of
-run.py.
+"""Runs the tests against an installed wheel that has the program: `tools/dev/test.sh --wheel FILE`, with further
+words of run.py.
 
-The wheel is installed into a virtual environment that sees the system's packages. The tests stand in a folder of their
-own, which has the scripts of the tools, the examples, the documents and bench/, and neither sources of the packages nor
-crates: what they import and run is the wheel's. Without names of modules all are run but those that wheel.txt names with a
-reason. The folder goes at the end.
+The wheel is installed into a virtual environment that sees the system's packages. The tests stand in a folder of
+their own, which has the scripts of the tools, the examples, the documents and bench/, and neither sources of the
+packages nor crates: what they import and run is the wheel's. Without names of modules all are run but those that
+wheel.txt names with a reason. The folder goes at the end.
 
 Ends as run.py does, and with 1 and a message where the wheel cannot be installed or has no program.
 """

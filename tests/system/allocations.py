@@ -1,9 +1,10 @@
 """Refuses each allocation of a run in turn, for tests/system/allocations.sh, which says what is right.
 
-    allocations.py PROGRAM BANK SIZE TRIES TASK..
+allocations.py PROGRAM BANK SIZE TRIES TASK..
 
-Works in the current folder, which has the files of a network, scenarios and a journal, and refuse.so. BANK is the bank to be saved;
-SIZE and TRIES are words of `gen`. Writes told.txt, which has the counts, and a file `interrupted` where it was.
+Works in the current folder, which has the files of a network, scenarios and a journal, and refuse.so. BANK is the
+bank to be saved; SIZE and TRIES are words of `gen`. Writes told.txt, which has the counts, and a file `interrupted`
+where it was.
 """
 import os
 import pathlib
@@ -49,14 +50,19 @@ class Refusals:
         print(f"wrong: {' '.join(words)}: {what}", flush=True)
 
     def is_whole(self, words, out, whole):
-        """Whether an output is the whole text. With more than one worker the journal may be another one, so it is replayed."""
+        """Whether an output is the whole text. With more than one worker the journal may be another one, so it is
+        replayed."""
         if words[-4:] != ["--show", "both", "--workers", "2"]:
             return out == whole
         paid, _, journal = out.partition(b"\n\n")
         pathlib.Path("out-journal.csv").write_bytes(journal)
         status, replayed, _ = self.runner.run(["replay", *FILES, "--journal", "out-journal.csv"])
-        return (paid == whole.partition(b"\n\n")[0] and journal.splitlines()[-1].startswith(b"rounds,") and status == 0
-                and replayed.partition(b"\n\n")[2] == paid + b"\n")
+        return (
+            paid == whole.partition(b"\n\n")[0]
+            and journal.splitlines()[-1].startswith(b"rounds,")
+            and status == 0
+            and replayed.partition(b"\n\n")[2] == paid + b"\n"
+        )
 
     def job(self, words):
         status, whole, told = self.runner.run(words, {**self.environment, "COUNT": "count"})
@@ -78,9 +84,21 @@ class Refusals:
                     without += 1
                 else:
                     after = " and all after it" if lasting else ""
-                    self.fails(words, f"allocation {number} refused{after}: status {got[0]}, {len(got[1])} bytes written; {got[2][:80]!r}")
+                    self.fails(
+                        words,
+                        (
+                            f"allocation {number} refused{after}: status {got[0]}, {len(got[1])} bytes written;"
+                            f" {got[2][:80]!r}"
+                        ),
+                    )
             after = ", all from one on" if lasting else ""
-            print(f"{' '.join(words)}: {count} allocations{after}: {refused} times status 6 and no output, {without} times done without", flush=True)
+            print(
+                (
+                    f"{' '.join(words)}: {count} allocations{after}: {refused} times status 6 and no output,"
+                    f" {without} times done without"
+                ),
+                flush=True,
+            )
 
 
 def main(program, bank, size, tries, *tasks):

@@ -1,10 +1,10 @@
 """The program beside a plain model, for tests/system/compare.sh, which says what is compared.
 
-    compare.py [--wide] PROGRAM N SEED
+compare.py [--wide] PROGRAM N SEED
 
-Works in the current folder, and keeps there in `differ` each network that differs, with the words of its runs. Each run is a case:
-its status, its output and its messages are compared byte for byte. Writes told.txt, which has the counts, and a file `interrupted`
-where it was.
+Works in the current folder, and keeps there in `differ` each network that differs, with the words of its runs. Each
+run is a case: its status, its output and its messages are compared byte for byte. Writes told.txt, which has the
+counts, and a file `interrupted` where it was.
 """
 import difflib
 import os
@@ -19,7 +19,14 @@ sys.dont_write_bytecode = True
 import model
 import quick
 from networks import (
-    beyond_net, changed_replay, drawn_net, files_and_cases, files_and_cases_beyond, judge_compression, judge_journal)
+    beyond_net,
+    changed_replay,
+    drawn_net,
+    files_and_cases,
+    files_and_cases_beyond,
+    judge_compression,
+    judge_journal,
+)
 from running import Runner
 
 LIMIT = 600  # seconds of a run
@@ -36,7 +43,7 @@ def differing(text, other):
     """Some lines that differ, from the first on. Texts of very many lines are not compared whole."""
     lines = text.splitlines(), other.splitlines()
     first = next((n for n, (one, two) in enumerate(zip(*lines)) if one != two), min(map(len, lines)))
-    parts = [part[first:first + 100] for part in lines]
+    parts = [part[first : first + 100] for part in lines]
     return list(difflib.unified_diff(*parts, "model", "program", f"from line {first + 1}", "", 0, ""))[:8]
 
 

@@ -139,6 +139,7 @@ def forget():
 
 # Payments.
 
+
 def estate(net, paid, i):
     return net.banks[i].cash + sum(paid[x] for x in net.columns[i])
 
@@ -181,8 +182,8 @@ def put(net, paid, may, x, to, keep=1000):
 
 
 def least(net, keep=1000, start=None):
-    """Raises one debt as long as its debtor's rule gives more: by one unit, and by all of it where much is owed. Begins with
-    nothing paid, or with payments that are known to be no more than the least."""
+    """Raises one debt as long as its debtor's rule gives more: by one unit, and by all of it where much is owed.
+    Begins with nothing paid, or with payments that are known to be no more than the least."""
     if net.large:
         paid = quick.least(net, keep, start)
         assert paid == pay(net, paid, keep)
@@ -246,8 +247,8 @@ def added(net, i, sum_added):
 
 
 def rescue(net, i, low=None):
-    """The least sum that saves the bank i, and what it lacks with a unit less: all sums are tried, from 0 on. With more cash no
-    less is paid, so each begins with what was paid before."""
+    """The least sum that saves the bank i, and what it lacks with a unit less: all sums are tried, from 0 on. With
+    more cash no less is paid, so each begins with what was paid before."""
     if net.large:
         return rescue_by_halves(net, i, low or least(net))
     sum_added = lacks = 0
@@ -285,8 +286,8 @@ def shocked(net, scenario):
 
 
 def breaking(net):
-    """The least cut that breaks each bank, and its state then: all cuts are tried, from the greatest down. A milder one lowers no
-    payment, so each begins with what was paid before. Cuts that leave the same cash leave the same."""
+    """The least cut that breaks each bank, and its state then: all cuts are tried, from the greatest down. A milder
+    one lowers no payment, so each begins with what was paid before. Cuts that leave the same cash leave the same."""
     found, paid, before, states = [(1001, "sound")] * len(net.banks), None, None, []
     for cut in range(1000, -1, -1):
         left = shocked(net, Scenario("", cut, []))
@@ -312,7 +313,7 @@ def ruins_by_blocks(net, banks):
     """The same by blocks of banks: each clearing begins with what is paid where all of the block have no cash."""
     size = int(len(banks) ** 0.5)
     for first in range(0, len(banks), size):
-        block = banks[first:first + size]
+        block = banks[first : first + size]
         start = quick.least(with_cash(net, lambda i, bank: 0 if i in block else bank.cash))
         for j in block:
             ruined = with_cash_at(net, j, 0)
@@ -350,6 +351,7 @@ def verdict(net, raises):
 
 # Texts.
 
+
 def line(*fields):
     return ",".join(str(field) for field in fields) + "\n"
 
@@ -360,7 +362,8 @@ def debt_fields(net, debt):
 
 def payments_text(net, paid):
     return line("debtor", "creditor", "class", "claim", "paid") + "".join(
-        line(*debt_fields(net, debt), debt.claim, paid[x]) for x, debt in enumerate(net.debts))
+        line(*debt_fields(net, debt), debt.claim, paid[x]) for x, debt in enumerate(net.debts)
+    )
 
 
 def defaults_text(net, paid):
@@ -407,8 +410,7 @@ def cost_standing(net, keep, paid, i):
 
 def costs_text(net, keep):
     paid = least(net, keep)
-    text = payments_text(net, paid) + "\n" + line(
-        "bank", "estate", "lost", "outside_paid", "paid", "equity", "state")
+    text = payments_text(net, paid) + "\n" + line("bank", "estate", "lost", "outside_paid", "paid", "equity", "state")
     totals, defaults = [0] * 5, 0
     for i, bank in enumerate(net.banks):
         numbers, health = cost_standing(net, keep, paid, i)
@@ -423,7 +425,9 @@ def cost_bounds_text(net, keep):
     text = line("debtor", "creditor", "class", "claim", "least", "greatest")
     for x, debt in enumerate(net.debts):
         text += line(*debt_fields(net, debt), debt.claim, *(paid[x] for paid in ends))
-    text += "\n" + line("bank", *(f"{what}_at_{end}" for end in ("least", "greatest") for what in ("lost", "equity", "state")))
+    text += "\n" + line(
+        "bank", *(f"{what}_at_{end}" for end in ("least", "greatest") for what in ("lost", "equity", "state"))
+    )
     for i, bank in enumerate(net.banks):
         fields = []
         for paid in ends:
@@ -434,11 +438,17 @@ def cost_bounds_text(net, keep):
 
 
 def breaking_text(net):
-    return line("bank", "cut", "state") + "".join(line(bank.name, *told) for bank, told in zip(net.banks, breaking(net)))
+    return line("bank", "cut", "state") + "".join(
+        line(bank.name, *told) for bank, told in zip(net.banks, breaking(net))
+    )
 
 
 def impact_text(net):
-    paid, first, second = least(net), line("bank", "cash", "own", "others", "falls"), line("bank", "of", "lost", "falls")
+    paid, first, second = (
+        least(net),
+        line("bank", "cash", "own", "others", "falls"),
+        line("bank", "of", "lost", "falls"),
+    )
     for j, (ruined, then) in enumerate(ruins(net)):
         # Of a large network those banks alone for which anything is other.
         banks = sorted({j} | quick.touched(net, paid, then)) if net.large else range(len(net.banks))
@@ -482,7 +492,9 @@ def outcomes_text(net, scenarios):
         outside = sum(min(bank.outside, estate(left, paid, i)) for i, bank in enumerate(left.banks))
         equity = sum(keeps(left, paid, i) for i in banks) - outside
         defaults, fundamental = len(banks) - states.count("sound"), states.count("fundamental")
-        text += line(scenario.name, sum(bank.cash for bank in left.banks), sum(paid), outside, equity, defaults, fundamental)
+        text += line(
+            scenario.name, sum(bank.cash for bank in left.banks), sum(paid), outside, equity, defaults, fundamental
+        )
         fallen = [n + (told != "sound") for n, told in zip(fallen, states)]
         own = [n + (told == "fundamental") for n, told in zip(own, states)]
     text += "\n" + line("bank", "defaults", "fundamental")
@@ -506,12 +518,14 @@ def stress_text(net, scenarios):
 def banks_text(net, second):
     extra = lambda bank: [bank.outside] if second else []
     return line("name", "cash", "rule", *(["outside"] if second else [])) + "".join(
-        line(bank.name, bank.cash, bank.rule, *extra(bank)) for bank in net.banks)
+        line(bank.name, bank.cash, bank.rule, *extra(bank)) for bank in net.banks
+    )
 
 
 def debts_text(net):
     return line("debtor", "creditor", "class", "claim") + "".join(
-        line(*debt_fields(net, debt), debt.claim) for debt in net.debts)
+        line(*debt_fields(net, debt), debt.claim) for debt in net.debts
+    )
 
 
 def counts_text(net):

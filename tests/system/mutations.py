@@ -1,6 +1,7 @@
-"""Files that are altered at random, and what each reader of the package makes of them: for mutations.sh and tests/test_attacks_mutations.py.
+"""Files that are altered at random, and what each reader of the package makes of them: for mutations.sh and
+tests/test_attacks_mutations.py.
 
-    mutations.py N SEED
+mutations.py N SEED
 
 Writes what it found into told.txt of the current folder, and each file that was read wrong into its folder wrong/."""
 import collections
@@ -32,9 +33,55 @@ TWELVE, HUB = ROOT / "examples/twelve-banks", ROOT / "examples/hub"
 REFUSALS = (errors.ClearingError, runner.ToolError, audit.RefusedError, shock.ScenarioError, parts.NoRoomError)
 
 # What is put in the place of a field, or into a text.
-FIELDS = [b"", b" ", b"0", b"00", b"7", b" 7\t", b"1,000", b"1.000", b"7.5", b"-7", b"+7", b"1e3", "٣".encode(), b"9" * 20, b"0" * 30, b"9" * 5000, b"1000001",
-          b"order", b"Order", b"x" * 65, b'"', b'""', b'"a\nb"', b"a\rb", b"\x7f", b"\x1f", b"\xff\xfe", b"\0", "\u202eA".encode(), "\u2028".encode(), b"A", b"Hub",
-          b"=1+1", b"'", b"[", b"]", b"{}", b"\\x41", b"\\u0041", b"#", b"..", b"/etc/passwd", b"\xef\xbb\xbf", b"true", b"nan", b"total", b"rounds"]
+FIELDS = [
+    b"",
+    b" ",
+    b"0",
+    b"00",
+    b"7",
+    b" 7\t",
+    b"1,000",
+    b"1.000",
+    b"7.5",
+    b"-7",
+    b"+7",
+    b"1e3",
+    "٣".encode(),
+    b"9" * 20,
+    b"0" * 30,
+    b"9" * 5000,
+    b"1000001",
+    b"order",
+    b"Order",
+    b"x" * 65,
+    b'"',
+    b'""',
+    b'"a\nb"',
+    b"a\rb",
+    b"\x7f",
+    b"\x1f",
+    b"\xff\xfe",
+    b"\0",
+    "\u202eA".encode(),
+    "\u2028".encode(),
+    b"A",
+    b"Hub",
+    b"=1+1",
+    b"'",
+    b"[",
+    b"]",
+    b"{}",
+    b"\\x41",
+    b"\\u0041",
+    b"#",
+    b"..",
+    b"/etc/passwd",
+    b"\xef\xbb\xbf",
+    b"true",
+    b"nan",
+    b"total",
+    b"rounds",
+]
 
 
 def altered(rng, data):
@@ -111,7 +158,9 @@ def must(holds, what):
 
 def asks(*words):
     """A run of the program: its status, what it prints, and its message."""
-    done = subprocess.run([os.environ["CLEARING"], *map(str, words)], stdin=subprocess.DEVNULL, capture_output=True, timeout=120)
+    done = subprocess.run(
+        [os.environ["CLEARING"], *map(str, words)], stdin=subprocess.DEVNULL, capture_output=True, timeout=120
+    )
     must(done.returncode in (0, 4, 7), f"the program ended with {done.returncode}: {done.stderr[-300:]!r}")
     message = done.stderr.decode("utf-8", "replace").strip().removeprefix("clearing: ")
     return done.returncode, done.stdout, message if done.returncode == 4 else ""
@@ -126,7 +175,8 @@ def refused_by(work, *words):
 
 
 class Reader:
-    """A reader with the files that it is given whole, by a name each. `read` says whether it took a file, and raises where that is wrong."""
+    """A reader with the files that it is given whole, by a name each. `read` says whether it took a file, and raises
+    where that is wrong."""
 
     def __init__(self, folder):
         self.folder = pathlib.Path(folder)
@@ -140,19 +190,35 @@ class Reader:
 
 
 class Networks(Reader):
-    """Banks and debts: as the program reads them read them audit.py, the package and the tools, or all refuse them alike."""
+    """Banks and debts: as the program reads them read them audit.py, the package and the tools, or all refuse them
+    alike."""
 
     SHARE = 25
 
     def files(self):
-        odd = b'\xef\xbb\xbfname,cash,rule,outside\r\n"A ""B""",5,order,0\r\n Caf\xc3\xa9 , 07 ,webster,3\r\n\r\n,,,\r\n"Z\t",0,equal,1\r\n'
-        return {"twelve": (TWELVE / "banks.csv").read_bytes(), "hub": (HUB / "banks.csv").read_bytes(), "odd": odd.replace(b'"A ""B"""', b'"A B"'),
-                "debts": (HUB / "debts.csv").read_bytes(), "debts again": (TWELVE / "debts.csv").read_bytes()}
+        odd = (
+            b'\xef\xbb\xbfname,cash,rule,outside\r\n"A ""B""",5,order,0\r\n Caf\xc3\xa9 , 07'
+            b' ,webster,3\r\n\r\n,,,\r\n"Z\t",0,equal,1\r\n'
+        )
+        return {
+            "twelve": (TWELVE / "banks.csv").read_bytes(),
+            "hub": (HUB / "banks.csv").read_bytes(),
+            "odd": odd.replace(b'"A ""B"""', b'"A B"'),
+            "debts": (HUB / "debts.csv").read_bytes(),
+            "debts again": (TWELVE / "debts.csv").read_bytes(),
+        }
 
     def read(self, name, data):
         banks = data if "debts" not in name else ((HUB if name == "debts" else TWELVE) / "banks.csv").read_bytes()
-        debts = data if "debts" in name else {"hub": HUB, "twelve": TWELVE}[name].joinpath("debts.csv").read_bytes() if name != "odd" else \
-            b"debtor,creditor,class,claim\nA B,Z,1,3\n"
+        debts = (
+            data
+            if "debts" in name
+            else (
+                {"hub": HUB, "twelve": TWELVE}[name].joinpath("debts.csv").read_bytes()
+                if name != "odd"
+                else b"debtor,creditor,class,claim\nA B,Z,1,3\n"
+            )
+        )
         words = ["--banks", self.file("b.csv", banks), "--debts", self.file("d.csv", debts)]
         status, printed, message = asks("check", *words)
         network, refusal = refused_by(audit.read_network, banks, debts)
@@ -168,7 +234,9 @@ class Networks(Reader):
         must(text == printed, "audit.py read other numbers than the program")
         # The package compares with what it reads itself, and refuses its own answer where that differs.
         check = Network(words[1], words[3]).check()
-        must([bank.cash for bank in check.banks] == [bank.cash for bank in network.banks], "the package read other cash")
+        must(
+            [bank.cash for bank in check.banks] == [bank.cash for bank in network.banks], "the package read other cash"
+        )
         if accounts is not None:
             known = {bank.name.decode(): (bank.cash, bank.outside) for bank in network.banks}
             read = {bank: (account.cash, account.outside) for bank, account in accounts[1].items()}
@@ -183,7 +251,9 @@ class Journals(Reader):
 
     def files(self):
         words = ["--banks", HUB / "banks.csv", "--debts", HUB / "debts.csv"]
-        self.words, self.network = words, audit.read_network((HUB / "banks.csv").read_bytes(), (HUB / "debts.csv").read_bytes())
+        self.words, self.network = words, audit.read_network(
+            (HUB / "banks.csv").read_bytes(), (HUB / "debts.csv").read_bytes()
+        )
         journal = asks("clear", *words, "--show", "journal", "--workers", 1)[1]
         return {"whole": journal, "half": journal[: len(journal) // 2].rpartition(b"\n")[0] + b"\n"}
 
@@ -210,9 +280,15 @@ class Scenarios(Reader):
     def files(self):
         self.words = ["--banks", HUB / "banks.csv", "--debts", HUB / "debts.csv"]
         self.banks = audit.read_banks((HUB / "banks.csv").read_bytes())
-        text = '# years\n[[scenario]]\nname = "half" # .[\ncut = 500\n\n[[scenario]]\nname = " a; b "\ncut = 333\n[[scenario.loss]]\nbank = "South"\n' \
-               "amount = 41\n[[scenario.loss]]\nbank = 'Hub'\namount = 1_000\n[[scenario]]\nname = '''x'''\n"
-        return {"plain": text.encode(), "inline": b'scenario = [{name = "a", cut = 10, loss = [{bank = "Hub", amount = 7}]}, {name = "b"}]\n'}
+        text = (
+            '# years\n[[scenario]]\nname = "half" # .[\ncut = 500\n\n[[scenario]]\nname = " a; b "\ncut ='
+            " 333\n[[scenario.loss]]\nbank = \"South\"\namount = 41\n[[scenario.loss]]\nbank = 'Hub'\namount ="
+            " 1_000\n[[scenario]]\nname = '''x'''\n"
+        )
+        return {
+            "plain": text.encode(),
+            "inline": b'scenario = [{name = "a", cut = 10, loss = [{bank = "Hub", amount = 7}]}, {name = "b"}]\n',
+        }
 
     def read(self, name, data):
         status, printed, message = asks("outcomes", *self.words, "--scenarios", self.file("s.toml", data))
@@ -237,12 +313,25 @@ class Texts(Reader):
 
     def files(self):
         words = ["--banks", TWELVE / "banks.csv", "--debts", TWELVE / "debts.csv"]
-        tasks = {"clear": [], "defaults": [], "bounds": [], "breaking": [], "rescues": [], "impact": [], "compress": [], "check": [], "costs": ["--keep", 500],
-                 "cost-bounds": ["--keep", 500], "rescue": ["--bank", "Calder Mutual"]}
+        tasks = {
+            "clear": [],
+            "defaults": [],
+            "bounds": [],
+            "breaking": [],
+            "rescues": [],
+            "impact": [],
+            "compress": [],
+            "check": [],
+            "costs": ["--keep", 500],
+            "cost-bounds": ["--keep", 500],
+            "rescue": ["--bank", "Calder Mutual"],
+        }
         scenarios = self.file("s.toml", b'[[scenario]]\nname = "half"\ncut = 500\n[[scenario]]\nname = "as it is"\n')
         found = {task: asks(task, *words, *more) for task, more in tasks.items()}
         found["journal"] = asks("clear", *words, "--show", "both", "--workers", 1)
-        found["stress"], found["outcomes"] = (asks(task, *words, "--scenarios", scenarios) for task in ("stress", "outcomes"))
+        found["stress"], found["outcomes"] = (
+            asks(task, *words, "--scenarios", scenarios) for task in ("stress", "outcomes")
+        )
         return {task: text for task, (status, text, _) in found.items() if status == 0}
 
     def read(self, name, data):
@@ -269,7 +358,10 @@ def tables_text(result):
 
 
 def table_text(table):
-    columns = [["yes" if each is True else "no" if each is False else str(each) for each in table.column(name)] for name in table.columns]
+    columns = [
+        ["yes" if each is True else "no" if each is False else str(each) for each in table.column(name)]
+        for name in table.columns
+    ]
     return "".join(",".join(line) + "\n" for line in zip(*columns))
 
 
@@ -282,11 +374,22 @@ def same_fields(text, printed):
             found = other.split(",")
             # A column of what is owed or paid outside may be missing, and is 0 then.
             if len(found) < len(fields) and "0" in fields:
-                short = [field for at, field in enumerate(fields) if at != fields.index("0")] if len(found) == len(fields) - 1 else []
-                candidates = [short, *([*fields[:at], *fields[at + 1 :]] for at, field in enumerate(fields) if field == "0")]
+                short = (
+                    [field for at, field in enumerate(fields) if at != fields.index("0")]
+                    if len(found) == len(fields) - 1
+                    else []
+                )
+                candidates = [
+                    short,
+                    *([*fields[:at], *fields[at + 1 :]] for at, field in enumerate(fields) if field == "0"),
+                ]
             else:
                 candidates = [fields]
-            if any(len(each) == len(found) and all(a == b or a.isdigit() and b.isdigit() and int(a) == int(b) for a, b in zip(each, found)) for each in candidates):
+            if any(
+                len(each) == len(found)
+                and all(a == b or a.isdigit() and b.isdigit() and int(a) == int(b) for a, b in zip(each, found))
+                for each in candidates
+            ):
                 break
         else:
             raise Wrong(f"the line {line[:100]!r} was read, and does not stand there")
@@ -299,8 +402,12 @@ class Sheets(Reader):
 
     def files(self):
         return {
-            "list": b"lender,borrower,amount,note\n" + b"".join(b"%s,%s,%d,x\n" % (a, b, 7 * n + 1) for n, (a, b) in enumerate(
-                [(b"A", b"B"), (b"B", b"C"), (b"C", b"A"), (b"A", b"C"), (b"D", b"A"), (b"B", b"D")])),
+            "list": b"lender,borrower,amount,note\n" + b"".join(
+                b"%s,%s,%d,x\n" % (a, b, 7 * n + 1)
+                for n, (a, b) in enumerate(
+                    [(b"A", b"B"), (b"B", b"C"), (b"C", b"A"), (b"A", b"C"), (b"D", b"A"), (b"B", b"D")]
+                )
+            ),
             "matrix": b"owes,A,B,C,cash\nA,0,10,20,5\nB,7,,3,6\nC,1,2,0,70\n",
             "totals": b"bank,assets,liabilities,cash\nA,100,60,20\nB,50,90,10\nC,70,40,30\nD,30,60,5\n",
             "table": b"bank,cash,outside,rule\nA,3,0,order\nB,5,1,webster\nC,0,2,equal\nD,9,0,adams\n",
@@ -316,7 +423,9 @@ class Sheets(Reader):
                 net, plain = Network.from_totals(str(path), method="sparse"), plain_totals(data)
             else:
                 sheet = path if name == "list" else self.file("list.csv", self.whole["list"])
-                net = Network.from_list(str(sheet), table=str(table), debtor="borrower", creditor="lender", duplicates="sum")
+                net = Network.from_list(
+                    str(sheet), table=str(table), debtor="borrower", creditor="lender", duplicates="sum"
+                )
                 plain = plain_list(sheet.read_bytes())
         except errors.SheetError:
             return False
@@ -378,7 +487,11 @@ def plain_matrix(data):
 
 def plain_totals(data):
     rows = plain_rows(data)
-    if rows is None or rows[0] != ["bank", "assets", "liabilities", "cash"] or any(len(row[0]) != 1 for row in rows[1:]):
+    if (
+        rows is None
+        or rows[0] != ["bank", "assets", "liabilities", "cash"]
+        or any(len(row[0]) != 1 for row in rows[1:])
+    ):
         return None
     found = collections.Counter()
     for bank, assets, liabilities, _ in rows[1:]:
@@ -396,22 +509,51 @@ class Workbooks(Reader):
 
     SHARE = 3
 
-    SHEET = ('<?xml version="1.0"?><worksheet xmlns="http://schemas.openxmlformats.org/spreadsheetml/2006/main"><sheetData>'
-             + "".join(f'<row r="{r}">' + "".join(f'<c r="{c}{r}" t="inlineStr"><is><t>{v}</t></is></c>' if isinstance(v, str) else f'<c r="{c}{r}"><v>{v}</v></c>'
-                                                  for c, v in zip("ABCDE", row)) + "</row>"
-                       for r, row in enumerate([("owes", "A", "B", "C", "cash"), ("A", 0, 10, 20, 5), ("B", 7, 0, 3, 6), ("C", 1, 2, 0, 70)], 1))
-             + "</sheetData></worksheet>")
+    SHEET = (
+        '<?xml version="1.0"?><worksheet xmlns="http://schemas.openxmlformats.org/spreadsheetml/2006/main"><sheetData>'
+        + "".join(
+            f'<row r="{r}">'
+            + "".join(
+                (
+                    f'<c r="{c}{r}" t="inlineStr"><is><t>{v}</t></is></c>'
+                    if isinstance(v, str)
+                    else f'<c r="{c}{r}"><v>{v}</v></c>'
+                )
+                for c, v in zip("ABCDE", row)
+            )
+            + "</row>"
+            for r, row in enumerate(
+                [("owes", "A", "B", "C", "cash"), ("A", 0, 10, 20, 5), ("B", 7, 0, 3, 6), ("C", 1, 2, 0, 70)], 1
+            )
+        )
+        + "</sheetData></worksheet>"
+    )
     PARTS = {
-        "[Content_Types].xml": '<?xml version="1.0"?><Types xmlns="http://schemas.openxmlformats.org/package/2006/content-types">'
-        '<Default Extension="rels" ContentType="application/vnd.openxmlformats-package.relationships+xml"/><Default Extension="xml" ContentType="application/xml"/>'
-        '<Override PartName="/xl/workbook.xml" ContentType="application/vnd.openxmlformats-officedocument.spreadsheetml.sheet.main+xml"/>'
-        '<Override PartName="/xl/worksheets/sheet1.xml" ContentType="application/vnd.openxmlformats-officedocument.spreadsheetml.worksheet+xml"/></Types>',
-        "_rels/.rels": '<?xml version="1.0"?><Relationships xmlns="http://schemas.openxmlformats.org/package/2006/relationships"><Relationship Id="r1" '
-        'Type="http://schemas.openxmlformats.org/officeDocument/2006/relationships/officeDocument" Target="xl/workbook.xml"/></Relationships>',
-        "xl/workbook.xml": '<?xml version="1.0"?><workbook xmlns="http://schemas.openxmlformats.org/spreadsheetml/2006/main" '
-        'xmlns:r="http://schemas.openxmlformats.org/officeDocument/2006/relationships"><sheets><sheet name="debts" sheetId="1" r:id="r1"/></sheets></workbook>',
-        "xl/_rels/workbook.xml.rels": '<?xml version="1.0"?><Relationships xmlns="http://schemas.openxmlformats.org/package/2006/relationships"><Relationship Id="r1" '
-        'Type="http://schemas.openxmlformats.org/officeDocument/2006/relationships/worksheet" Target="worksheets/sheet1.xml"/></Relationships>',
+        "[Content_Types].xml": (
+            '<?xml version="1.0"?><Types xmlns="http://schemas.openxmlformats.org/package/2006/content-types"><Default'
+            ' Extension="rels" ContentType="application/vnd.openxmlformats-package.relationships+xml"/><Default'
+            ' Extension="xml" ContentType="application/xml"/><Override PartName="/xl/workbook.xml"'
+            ' ContentType="application/vnd.openxmlformats-officedocument.spreadsheetml.sheet.main+xml"/><Override'
+            ' PartName="/xl/worksheets/sheet1.xml"'
+            ' ContentType="application/vnd.openxmlformats-officedocument.spreadsheetml.worksheet+xml"/></Types>'
+        ),
+        "_rels/.rels": (
+            '<?xml version="1.0"?><Relationships'
+            ' xmlns="http://schemas.openxmlformats.org/package/2006/relationships"><Relationship Id="r1"'
+            ' Type="http://schemas.openxmlformats.org/officeDocument/2006/relationships/officeDocument"'
+            ' Target="xl/workbook.xml"/></Relationships>'
+        ),
+        "xl/workbook.xml": (
+            '<?xml version="1.0"?><workbook xmlns="http://schemas.openxmlformats.org/spreadsheetml/2006/main"'
+            ' xmlns:r="http://schemas.openxmlformats.org/officeDocument/2006/relationships"><sheets><sheet name="debts"'
+            ' sheetId="1" r:id="r1"/></sheets></workbook>'
+        ),
+        "xl/_rels/workbook.xml.rels": (
+            '<?xml version="1.0"?><Relationships'
+            ' xmlns="http://schemas.openxmlformats.org/package/2006/relationships"><Relationship Id="r1"'
+            ' Type="http://schemas.openxmlformats.org/officeDocument/2006/relationships/worksheet"'
+            ' Target="worksheets/sheet1.xml"/></Relationships>'
+        ),
         "xl/worksheets/sheet1.xml": SHEET,
     }
 
@@ -439,7 +581,12 @@ class Commands(Reader):
     SHARE = 3
 
     def files(self):
-        return {"list": b"from_list.py\nfile\t\t1-m.csv\nword\t--table\nfile\t--rate=currency=\t3-rates.csv\nword\t--unit=1.5\nfile\ta b=\t5-x y.csv\n"}
+        return {
+            "list": (
+                b"from_list.py\nfile\t\t1-m.csv\nword\t--table\nfile\t--rate=currency=\t3-rates.csv\nword\t--unit=1.5\n"
+                b"file\ta b=\t5-x y.csv\n"
+            )
+        }
 
     def read(self, name, data):
         try:
@@ -456,25 +603,43 @@ class Commands(Reader):
 
 
 class Folders(Reader):
-    """A folder of evidence of which a file was altered, with checksums made anew: it is refused, unless it says the same as before."""
+    """A folder of evidence of which a file was altered, with checksums made anew: it is refused, unless it says the
+    same as before."""
 
     SHARE = 2
 
     def files(self):
-        words = types.SimpleNamespace(folder=str(self.folder / "evidence"), banks=str(HUB / "banks.csv"), debts=str(HUB / "debts.csv"), scenarios=None, limits=None, bank="South",
-                                      source=None, changes=None, case=None)
+        words = types.SimpleNamespace(
+            folder=str(self.folder / "evidence"),
+            banks=str(HUB / "banks.csv"),
+            debts=str(HUB / "debts.csv"),
+            scenarios=None,
+            limits=None,
+            bank="South",
+            source=None,
+            changes=None,
+            case=None,
+        )
         with contextlib.redirect_stdout(io.TextIOWrapper(io.BytesIO())):
             making.make(words)
         folder = self.folder / "evidence"
-        self.network = audit.read_network((folder / "inputs/banks.csv").read_bytes(), (folder / "inputs/debts.csv").read_bytes())
-        return {str(path.relative_to(folder)): path.read_bytes() for path in folder.rglob("*") if path.is_file() and path.name != "SHA256SUMS"}
+        self.network = audit.read_network(
+            (folder / "inputs/banks.csv").read_bytes(), (folder / "inputs/debts.csv").read_bytes()
+        )
+        return {
+            str(path.relative_to(folder)): path.read_bytes()
+            for path in folder.rglob("*")
+            if path.is_file() and path.name != "SHA256SUMS"
+        }
 
     def read(self, name, data):
         folder = self.folder / "altered"
         shutil.copytree(self.folder / "evidence", folder)
         (folder / name).write_bytes(data)
         files = {each: data if each == name else content for each, content in self.whole.items()}
-        (folder / "SHA256SUMS").write_bytes(parts.sums_text({each: hashlib.sha256(content).hexdigest() for each, content in files.items()}))
+        (folder / "SHA256SUMS").write_bytes(
+            parts.sums_text({each: hashlib.sha256(content).hexdigest() for each, content in files.items()})
+        )
         out = io.TextIOWrapper(io.BytesIO())
         try:
             # Nothing runs the program again: what is told is told of the files alone.
@@ -499,7 +664,8 @@ READERS = (Networks, Journals, Scenarios, Texts, Sheets, Workbooks, Commands, Fo
 
 
 def run(count, seed, folder):
-    """Gives each reader its share of so many altered files: how many each took and refused, and what was wrong, with the file."""
+    """Gives each reader its share of so many altered files: how many each took and refused, and what was wrong, with
+    the file."""
     wrong, counts, share = [], {}, sum(reader.SHARE for reader in READERS)
     for kind in READERS:
         # Each reader has a seed of its own, so that its files are the same whatever the others do.

@@ -1,20 +1,73 @@
-"""Random networks for tests/system/compare.py, the jobs that are tried on each, and what the program must print by tests/system/model.py."""
+"""Random networks for tests/system/compare.py, the jobs that are tried on each, and what the program must print by
+tests/system/model.py."""
 import collections
 import itertools
 
 from model import (
-    LIMITS, RULES, Bank, Debt, Net, Scenario, banks_text, bounds_text, breaking_text, check_text, cost_bounds_text,
-    costs_text, debt_fields, debts_text, defaults_text, due, gen_text, impact_text, journal_text, least, line,
-    outcomes_text, pay, payments_text, put, refusal, rescue, rescue_text, rescues_text, state, stress_text, verdict)
+    LIMITS,
+    RULES,
+    Bank,
+    Debt,
+    Net,
+    Scenario,
+    banks_text,
+    bounds_text,
+    breaking_text,
+    check_text,
+    cost_bounds_text,
+    costs_text,
+    debt_fields,
+    debts_text,
+    defaults_text,
+    due,
+    gen_text,
+    impact_text,
+    journal_text,
+    least,
+    line,
+    outcomes_text,
+    pay,
+    payments_text,
+    put,
+    refusal,
+    rescue,
+    rescue_text,
+    rescues_text,
+    state,
+    stress_text,
+    verdict,
+)
 
 NAMES = [
-    "A", "B", "Crédit Loire", "銀行", "x y", "o'Hara", "a\\b", "rounds", "total", "-dash", "#1", "[scenario]", "=", "7",
-    "name", "order", "n" * 64, "é" * 32, "\u00a0nbsp", "a;b", "A ", " A", "b" * 63,
+    "A",
+    "B",
+    "Crédit Loire",
+    "銀行",
+    "x y",
+    "o'Hara",
+    "a\\b",
+    "rounds",
+    "total",
+    "-dash",
+    "#1",
+    "[scenario]",
+    "=",
+    "7",
+    "name",
+    "order",
+    "n" * 64,
+    "é" * 32,
+    "\u00a0nbsp",
+    "a;b",
+    "A ",
+    " A",
+    "b" * 63,
 ]
 MOST_CLAIMED = 1_000_000  # of one debt
 
 
 # Random networks, and files that say the same in another dress.
+
 
 def random_net(rng, size):
     odd = [name for name in NAMES if name == name.strip(" ")]
@@ -23,8 +76,12 @@ def random_net(rng, size):
     rule = rng.choice(RULES + [None, None])
     outside = rng.random() < 0.5
     banks = [
-        Bank(name, rng.choice([0, 0, rng.randint(0, most), rng.randint(0, 2 * most)]), rule or rng.choice(RULES),
-             rng.choice([0, rng.randint(0, most)]) if outside else 0)
+        Bank(
+            name,
+            rng.choice([0, 0, rng.randint(0, most), rng.randint(0, 2 * most)]),
+            rule or rng.choice(RULES),
+            rng.choice([0, rng.randint(0, most)]) if outside else 0,
+        )
         for name in names
     ]
     debts, seen = [], set()
@@ -42,31 +99,44 @@ def ring_net(rng, size):
     claim = rng.choice([1, 2, 5])
     order = rng.choice([list(range(size)), list(range(size))[::-1], rng.sample(range(size), size)])
     cut = rng.choice([size, rng.randint(2, size - 2)])
-    keys = [(order[i], order[start + (i + 1 - start) % count], 1) for start, count in [(0, cut), (cut, size - cut)] for i in range(start, start + count)]
+    keys = [
+        (order[i], order[start + (i + 1 - start) % count], 1)
+        for start, count in [(0, cut), (cut, size - cut)]
+        for i in range(start, start + count)
+    ]
     keys += [(rng.randrange(size), rng.randrange(size), 2) for _ in range(rng.choice([0, 1, size // 4]))]
     debts = [Debt(*key, claim) for key in dict.fromkeys(keys) if key[0] != key[1]]
     rng.shuffle(debts)
     rich = rng.sample(range(size), rng.randint(0, 2))
-    return Net([Bank(f"N{i}", int(i in rich), rng.choice(RULES), rng.choice([0, 0, 0, 0, 1])) for i in range(size)], debts)
+    return Net(
+        [Bank(f"N{i}", int(i in rich), rng.choice(RULES), rng.choice([0, 0, 0, 0, 1])) for i in range(size)], debts
+    )
 
 
 def wide_net(rng):
     """One bank with many debts of up to some hundred units, so that its rule has much to round."""
     count = rng.randint(4, 8)
     most = rng.choice([30, 100, 400])
-    debts = [Debt(0, creditor, cls, rng.choice([rng.randint(0, most), most, most // 2]))
-             for cls in range(1, 4) for creditor in range(1, count) if rng.random() < 0.8]
+    debts = [
+        Debt(0, creditor, cls, rng.choice([rng.randint(0, most), most, most // 2]))
+        for cls in range(1, 4)
+        for creditor in range(1, count)
+        if rng.random() < 0.8
+    ]
     debts.append(Debt(1, 0, 1, rng.randint(0, most)))
     rng.shuffle(debts)
     rules = [rng.choice(RULES) for _ in range(count)]
     debt_of_first = sum(debt.claim for debt in debts if debt.debtor == 0)
-    banks = [Bank(name, rng.randint(0, debt_of_first) if i == 0 else rng.choice([0, most]), rules[i], 0)
-             for i, name in enumerate(rng.sample(NAMES[:8], count))]
+    banks = [
+        Bank(name, rng.randint(0, debt_of_first) if i == 0 else rng.choice([0, most]), rules[i], 0)
+        for i, name in enumerate(rng.sample(NAMES[:8], count))
+    ]
     return Net(banks, debts)
 
 
 # Networks at the edge of the standard limits and beyond: by their banks, by their debts, or by what is owed. Most money
 # is short.
+
 
 def net_of_many_banks(rng):
     """1,000 to 1,200 banks, each of which owes some that follow."""
@@ -97,8 +167,10 @@ def net_of_much_owed(rng, total=None):
         debts.append(Debt(*keys.pop(), claim))
         left -= claim
     rng.shuffle(debts)
-    more = [Bank(name, rng.choice([0, rng.randint(0, total), total]), rng.choice(RULES), rng.choice([0, 7]))
-            for name in ("first", "second")]
+    more = [
+        Bank(name, rng.choice([0, rng.randint(0, total), total]), rng.choice(RULES), rng.choice([0, 7]))
+        for name in ("first", "second")
+    ]
     return Net([*others.banks, *more], debts)
 
 
@@ -112,8 +184,10 @@ def spread_net(rng, size, count, most):
             cls = rng.randint(1, last if len(keys) < count // 2 else 9)
             keys[debtor, creditor, cls] = rng.randint(0, most)
     part = int(most * count / size * rng.choice([0.05, 0.4, 0.9]))
-    banks = [Bank(f"N{i}", rng.choice([0, rng.randint(0, part)]), rng.choice(RULES), rng.choice([0, 0, 0, most]))
-             for i in range(size)]
+    banks = [
+        Bank(f"N{i}", rng.choice([0, rng.randint(0, part)]), rng.choice(RULES), rng.choice([0, 0, 0, most]))
+        for i in range(size)
+    ]
     return Net(banks, [Debt(*key, claim) for key, claim in keys.items()])
 
 
@@ -197,9 +271,13 @@ def random_scenarios(rng, net):
     scenarios = []
     for _ in range(rng.randint(0, 4)):
         hit = rng.sample(range(len(net.banks)), rng.randint(0, min(3, len(net.banks))))
-        scenarios.append(Scenario(
-            rng.choice(NAMES), rng.choice([0, 1, 333, 500, 999, 1000]),
-            [(i, rng.choice([0, 1, rng.randint(0, 20), 10**12])) for i in hit]))
+        scenarios.append(
+            Scenario(
+                rng.choice(NAMES),
+                rng.choice([0, 1, 333, 500, 999, 1000]),
+                [(i, rng.choice([0, 1, rng.randint(0, 20), 10**12])) for i in hit],
+            )
+        )
     return scenarios
 
 
@@ -255,6 +333,7 @@ def changed_journal(rng, net, raises):
 
 
 # What is tried of a network.
+
 
 def drawn_net(rng):
     """A network of 2 to 8 banks, now and then of 9 to 30, and seldom of 200."""
@@ -322,7 +401,9 @@ def files_and_cases(rng, net):
             continue
         words = ["rescue", *files, "--bank", name, *how()]
         cases.append((words, "", 2) if name.startswith("-") else (words, rescue_text(net, i), 0))
-    seed, size = rng.choice([rng.randrange(100), rng.randrange(2**64)]), rng.randint(1, 8) if rng.random() < 0.9 else rng.randint(9, 40)
+    seed, size = rng.choice([rng.randrange(100), rng.randrange(2**64)]), (
+        rng.randint(1, 8) if rng.random() < 0.9 else rng.randint(9, 40)
+    )
     tries = rng.randint(0, 5 * size)
     made = ["gen", "--seed", str(seed), "--size", str(size), "--tries", str(tries), *how()]
     cases.append((made, gen_text(generated(seed, size, tries)), 0))
@@ -339,7 +420,17 @@ def files_and_cases(rng, net):
     # Within the standard limits both give the same.
     cases = [(words + limits(rng) if words[0] != "gen" else words, *told) for words, *told in cases]
     # What is judged, since more than one answer is right.
-    shown = ["clear", *files, *limits(rng), "--show", "journal", "--workers", workers(), "--sweeps", str(rng.choice([1, 1, 2, 7, 1000]))]
+    shown = [
+        "clear",
+        *files,
+        *limits(rng),
+        "--show",
+        "journal",
+        "--workers",
+        workers(),
+        "--sweeps",
+        str(rng.choice([1, 1, 2, 7, 1000])),
+    ]
     return texts, cases, shown, ["compress", *files]
 
 
@@ -355,7 +446,7 @@ def files_beyond(rng, net, sizes):
     """The files of a network by their names, of so many bytes where these are told: lines without a byte are no
     records."""
     second = any(bank.outside for bank in net.banks) or rng.random() < 0.3
-    scenarios = random_scenarios(rng, net)[:2 if many_times(net) else 1]
+    scenarios = random_scenarios(rng, net)[: 2 if many_times(net) else 1]
     texts = {
         "banks.csv": banks_text(net, second).encode(),
         "debts.csv": debts_text(net).encode(),
@@ -414,6 +505,7 @@ def files_and_cases_beyond(rng, net, sizes=None):
 
 
 # Answers of which more than one is right.
+
 
 def balances(net):
     """What each bank is owed in each class, less what it owes."""
@@ -483,7 +575,8 @@ def changed_replay(rng, net, text):
 
 
 def judge_journal(net, low, text):
-    """What is wrong with a journal of a run, as it is printed, where these are the least payments; None where it is right."""
+    """What is wrong with a journal of a run, as it is printed, where these are the least payments; None where it is
+    right."""
     lines = text.splitlines()
     if lines[:1] != ["stamp,debtor,creditor,class,to"] or not lines[-1].startswith("rounds,"):
         return "no journal"

@@ -20,8 +20,8 @@ PLACE = {
 }
 # How many units of a class are put into their order one by one.
 SORTED = 50_000
-# How many units of a claim come before a level, and the greatest level. No two units of a claim come between two levels, since no
-# claim is above a million.
+# How many units of a claim come before a level, and the greatest level. No two units of a claim come between two
+# levels, since no claim is above a million.
 FINE = 10**12
 BEFORE = {
     "equal": lambda c, t: min(c, t),
@@ -34,8 +34,9 @@ HIGHEST = {"equal": 10**6, "losses": 10**6, "jefferson": 3 * FINE, "webster": 3 
 
 
 def dealt(rule, claims, units):
-    """What each claim gets of so many units: those that come before the greatest level that they reach, and a unit each of
-    what they leave, which come at that level."""
+    """What each claim gets of so many units: those that come before the greatest level that they reach, and a unit
+    each of what they leave, which come at that level."""
+
     def before(level):
         return [BEFORE[rule](claim, level) for claim in claims]
 

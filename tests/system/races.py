@@ -1,9 +1,10 @@
-"""Runs of several workers whose threads are held up at random, for tests/system/races.sh, which says what they are judged by.
+"""Runs of several workers whose threads are held up at random, for tests/system/races.sh, which says what they are
+judged by.
 
-    races.py PROGRAM SHAKE.so RUNS SEED
+races.py PROGRAM SHAKE.so RUNS SEED
 
-Writes into the current folder: the network that is tried, `wrong` with those that went wrong, told.txt, which has the counts, and a
-file `interrupted` where it was.
+Writes into the current folder: the network that is tried, `wrong` with those that went wrong, told.txt, which has the
+counts, and a file `interrupted` where it was.
 """
 import collections
 import importlib.util
@@ -20,7 +21,9 @@ import time
 sys.dont_write_bytecode = True
 from model import RULES, Bank, Debt, Net, banks_text, debts_text
 
-_spec = importlib.util.spec_from_file_location("audit", pathlib.Path(__file__).resolve().parents[2] / "python/src/clearing_tools/evidence/audit.py")
+_spec = importlib.util.spec_from_file_location(
+    "audit", pathlib.Path(__file__).resolve().parents[2] / "python/src/clearing_tools/evidence/audit.py"
+)
 audit = importlib.util.module_from_spec(_spec)
 _spec.loader.exec_module(audit)
 
@@ -34,11 +37,14 @@ PROCESSORS = sorted(os.sched_getaffinity(0))
 
 # Networks. Few units and many hands make the most races: a raise that enables another bank's, again and again.
 
+
 def ring(rng, size):
     """Units that go round, with a chord here and there."""
     claim = rng.choice([1, 3, 20, 100]) if size <= 100 else rng.choice([1, 3])
     debts = [(i, (i + 1) % size, 1, claim) for i in range(size)]
-    debts += [(rng.randrange(size), rng.randrange(size), rng.randint(2, 3), claim) for _ in range(rng.choice([0, size // 4]))]
+    debts += [
+        (rng.randrange(size), rng.randrange(size), rng.randint(2, 3), claim) for _ in range(rng.choice([0, size // 4]))
+    ]
     order = rng.choice([list(range(size)), list(range(size))[::-1], rng.sample(range(size), size)])
     rich = rng.sample(range(size), max(1, min(3, size // 20)))
     return [(1 if i in rich else 0) for i in range(size)], [(order[a], order[b], c, d) for a, b, c, d in debts]
@@ -46,21 +52,33 @@ def ring(rng, size):
 
 def chain(rng, size):
     order = rng.sample(range(size), size)
-    debts = [(order[i], order[j], rng.randint(1, 2), rng.randint(1, 60))
-             for i in range(size) for j in range(i + 1, min(size, i + 1 + rng.choice([1, 1, 2, 4])))]
+    debts = [
+        (order[i], order[j], rng.randint(1, 2), rng.randint(1, 60))
+        for i in range(size)
+        for j in range(i + 1, min(size, i + 1 + rng.choice([1, 1, 2, 4])))
+    ]
     return [40 if i == order[0] else rng.choice([0, 0, 0, 5]) for i in range(size)], debts
 
 
 def random_one(rng, size):
     count = min(rng.choice([2, 4, 12]) * size, 6000)
-    debts = [(rng.randrange(size), rng.randrange(size), rng.randint(1, 3), rng.randint(0, rng.choice([3, 40]))) for _ in range(count)]
+    debts = [
+        (rng.randrange(size), rng.randrange(size), rng.randint(1, 3), rng.randint(0, rng.choice([3, 40])))
+        for _ in range(count)
+    ]
     return [rng.choice([0, 0, rng.randint(0, 9), rng.randint(0, 90)]) for _ in range(size)], debts
 
 
 def core(rng, size):
     """A few banks that owe each other and all, and the others each one of these."""
     inner = max(2, size // 10)
-    debts = [(a, b, c, rng.randint(1, 90)) for a in range(inner) for b in range(inner) for c in (1, 2) if rng.random() < 30 / inner]
+    debts = [
+        (a, b, c, rng.randint(1, 90))
+        for a in range(inner)
+        for b in range(inner)
+        for c in (1, 2)
+        if rng.random() < 30 / inner
+    ]
     debts += [(i % inner, i, 1, rng.randint(1, 9)) for i in range(inner, size)]
     debts += [(i, rng.randrange(inner), 1, rng.randint(1, 9)) for i in range(inner, size)]
     return [rng.randint(0, 20) if i < inner else rng.choice([0, 2]) for i in range(size)], debts
@@ -74,16 +92,21 @@ def network(rng):
     cash, drawn = rng.choice(KINDS)(rng, size)
     rule = rng.choice(RULES + [None, None])
     outside = rng.random() < 0.25
-    banks = [Bank(f"N{i}", has, rule or rng.choice(RULES), rng.choice([0, 0, 1, 7]) if outside else 0) for i, has in enumerate(cash)]
+    banks = [
+        Bank(f"N{i}", has, rule or rng.choice(RULES), rng.choice([0, 0, 1, 7]) if outside else 0)
+        for i, has in enumerate(cash)
+    ]
     debts = {debt[:3]: Debt(*debt) for debt in drawn if debt[0] != debt[1]}
     return Net(banks, list(debts.values()))
 
 
 # Ways to shake a run: what is done before the program is started, and while it runs.
 
+
 def on_processors(count):
     def before(rng):
         os.sched_setaffinity(0, PROCESSORS[:1] if count == 1 else rng.sample(PROCESSORS, min(count, len(PROCESSORS))))
+
     return before
 
 
@@ -91,6 +114,7 @@ def of_class(policy):
     def before(rng):
         os.sched_setaffinity(0, PROCESSORS[:1])
         os.sched_setscheduler(0, policy, os.sched_param(0))
+
     return before
 
 
@@ -143,7 +167,9 @@ class Load:
     """
 
     def __enter__(self):
-        self.process = subprocess.Popen([sys.executable, "-c", self.CODE], preexec_fn=lambda: os.sched_setaffinity(0, PROCESSORS[:1]))
+        self.process = subprocess.Popen(
+            [sys.executable, "-c", self.CODE], preexec_fn=lambda: os.sched_setaffinity(0, PROCESSORS[:1])
+        )
         return self
 
     def __exit__(self, *_):
@@ -181,8 +207,14 @@ class Races:
         if interrupted:
             environment |= {"LD_PRELOAD": self.library, "SHAKE": str(rng.randrange(2**32))}
         inner = random.Random(rng.random())
-        process = subprocess.Popen([self.program, *words], stdin=subprocess.DEVNULL, stdout=subprocess.PIPE, stderr=subprocess.PIPE,
-                                   env=environment, preexec_fn=lambda: before(inner))
+        process = subprocess.Popen(
+            [self.program, *words],
+            stdin=subprocess.DEVNULL,
+            stdout=subprocess.PIPE,
+            stderr=subprocess.PIPE,
+            env=environment,
+            preexec_fn=lambda: before(inner),
+        )
         ended = threading.Event()
         stopper = threading.Thread(target=stop_and_go, args=(inner, process, ended)) if stopped else None
         if stopper:
@@ -235,19 +267,41 @@ class Races:
         return ["--workers", str(workers), "--sweeps", str(rng.choice([1, 1, 2, 7, 1000]))]
 
     def other_task(self, rng, net):
-        """The words of another task that runs on threads: by as many workers as it is told, or by a number of its own."""
+        """The words of another task that runs on threads: by as many workers as it is told, or by a number of its
+        own."""
         bank = net.banks[rng.randrange(len(net.banks))].name
-        pathlib.Path("cuts.toml").write_text("".join(f'[[scenario]]\nname = "{cut}"\ncut = {cut}\n' for cut in (0, 1, 250, 500, 1000)))
-        return rng.choice([
-            ["defaults", *FILES], ["bounds", *FILES], ["rescue", *FILES, "--bank", bank], ["stress", *FILES, "--scenarios", "cuts.toml"],
-            ["gen", "--seed", str(rng.randrange(99)), "--size", str(len(net.banks)), "--tries", str(8 * len(net.banks))],
-            ["breaking", *FILES], ["impact", *FILES], ["rescues", *FILES], ["outcomes", *FILES, "--scenarios", "cuts.toml"],
-        ])
+        pathlib.Path("cuts.toml").write_text(
+            "".join(f'[[scenario]]\nname = "{cut}"\ncut = {cut}\n' for cut in (0, 1, 250, 500, 1000))
+        )
+        return rng.choice(
+            [
+                ["defaults", *FILES],
+                ["bounds", *FILES],
+                ["rescue", *FILES, "--bank", bank],
+                ["stress", *FILES, "--scenarios", "cuts.toml"],
+                [
+                    "gen",
+                    "--seed",
+                    str(rng.randrange(99)),
+                    "--size",
+                    str(len(net.banks)),
+                    "--tries",
+                    str(8 * len(net.banks)),
+                ],
+                ["breaking", *FILES],
+                ["impact", *FILES],
+                ["rescues", *FILES],
+                ["outcomes", *FILES, "--scenarios", "cuts.toml"],
+            ]
+        )
 
     def one_network(self, number, most):
         rng = random.Random(f"{self.seed} {number}")
         net = network(rng)
-        self.read = {"banks": banks_text(net, any(bank.outside for bank in net.banks)).encode(), "debts": debts_text(net).encode()}
+        self.read = {
+            "banks": banks_text(net, any(bank.outside for bank in net.banks)).encode(),
+            "debts": debts_text(net).encode(),
+        }
         for name, text in self.read.items():
             pathlib.Path(f"{name}.csv").write_bytes(text)
         payments = self.plain("central", *FILES)

@@ -6,12 +6,15 @@ import signal
 
 
 class Runner:
-    """Starts a program again and again, and ends a run that takes too long. Writes what it printed into the current folder."""
+    """Starts a program again and again, and ends a run that takes too long. Writes what it printed into the current
+    folder."""
 
     def __init__(self, program, limit):
         self.program, self.limit, self.running = program, limit, None
         self.opened = [(os.POSIX_SPAWN_OPEN, 0, os.devnull, os.O_RDONLY, 0)] + [
-            (os.POSIX_SPAWN_OPEN, number, name, os.O_WRONLY | os.O_CREAT | os.O_TRUNC, 0o600) for number, name in ((1, "got"), (2, "told"))]
+            (os.POSIX_SPAWN_OPEN, number, name, os.O_WRONLY | os.O_CREAT | os.O_TRUNC, 0o600)
+            for number, name in ((1, "got"), (2, "told"))
+        ]
         signal.signal(signal.SIGALRM, self.too_long)
 
     def too_long(self, *_):
