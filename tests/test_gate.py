@@ -227,6 +227,19 @@ class Gate(Machine):
         self.assertEqual(told[3], "gate: 2 of 2 crates are proved; edits of low; 0 minutes so far")
         self.assertIn("logic=proved", lines)
 
+    def test_why_a_proof_was_refused_is_told_once_more_at_the_end(self):
+        steps = (
+            r"== low\nfn low::a: proved\nlogic=proved functions=1\nrt: low proved\n== low: its tests\nstatements std:"
+            r" modules loaded=1\nfn low::b: proved\nfn low::c: not proved\nfalse is not true\nrt: low: its tests are NOT"
+            r" PROVED\nrt: FAILED: low\n"
+        )
+        status, lines = self.ran(".ci/run", STEPS=steps, RT="1")
+        self.assertEqual(status, 1)
+        why = ["== low: its tests", "fn low::c: not proved", "false is not true", "rt: low: its tests are NOT PROVED"]
+        self.assertEqual(lines[-4:], [f"gate: {line}" for line in why])
+        status, lines = self.ran(".ci/run", STEPS=r"== low\nfn low::a: proved\nrt: low proved\n")
+        self.assertNotIn("gate: == low", lines)
+
     def test_what_is_printed_comes_through_in_every_locale(self):
         status, lines = self.ran(
             ".ci/run", STEPS=r"one side has `\316\273 x. x \342\211\241 x`\n", PYTHONIOENCODING="ascii"

@@ -13,6 +13,8 @@ An estimate goes by the bytes of what is to be proved, the edits that are to be 
 and what follows on what: the steps that are left are given to as many jobs as there are processors. Times are seen by a
 look at the processes each second, until `rt ci` says how much passed: what comes after it is no part of the table.
 
+Where a proof was refused, what it said is told once more after that, without the lines of what is proved.
+
 Ends with the status of the command; with 1, before the command is begun, where a crate has more than five edits in
 must-fail/; and with 1 for a dear edit where --dear-fails stands first. Where it is ended by a signal, it ends all that
 the command began.
@@ -45,6 +47,11 @@ PROOF, BYTE, TESTS, EDIT, AGAIN = 5, 0.0016, 0.0035, 6.5, 1.2
 SECONDS = 60
 STEP = re.compile(r"rt: (\w+)(?:( is kept): .*|(: its tests are)? proved|: trying its must-fail edits \((\d+)\))$")
 VERDICT = re.compile(r"\d+ passed, \d+ failed$")
+# A step that was refused, the head of what it says before that, and of that the lines that tell nothing of why.
+REFUSED = re.compile(r"rt: (.+?)(?:: its tests are)? NOT PROVED$")
+HEAD = "== "
+WELL = re.compile(r"fn .*: (?:proved|assumed)|(?:statements|library|crate|logic|axioms|by-macro:?|checked|so far:) ")
+MOST_LINES = 40
 PHASES = ("proof", "tests", "edits")
 CHILD_SUBREAPER = 36
 
@@ -353,6 +360,24 @@ class Watch(threading.Thread):
         return lines
 
 
+class Refusals:
+    """Why steps were refused, to be told once more at the end, where thousands of lines do not stand after it."""
+
+    def __init__(self) -> None:
+        self.said: List[str] = []
+        self.lines: List[str] = []
+
+    def read(self, line: str) -> None:
+        """Takes a line of rt ci."""
+        if line.startswith(HEAD):
+            self.said = [line]
+        elif REFUSED.match(line):
+            self.lines += [*self.said[:1], *self.said[1:][-MOST_LINES:], line]
+            self.said = []
+        elif not WELL.match(line):
+            self.said.append(line)
+
+
 def edit_in(crate: str, folder: pathlib.Path) -> str:
     """The name of the edit that was made in a copy of a crate; "" where none can be told."""
     for path in edits_of(crate):
@@ -426,7 +451,7 @@ def main(words: List[str]) -> int:
         ctypes.CDLL(None).prctl(CHILD_SUBREAPER, 1, 0, 0, 0)
     for each in (signal.SIGTERM, signal.SIGINT, signal.SIGHUP):
         signal.signal(each, ended_by)
-    work, watch = Work(), Watch()
+    work, watch, refusals = Work(), Watch(), Refusals()
     watch.start()
     with subprocess.Popen(words[1:] if strict else words, stdout=subprocess.PIPE) as gate:
         assert gate.stdout
@@ -435,6 +460,7 @@ def main(words: List[str]) -> int:
             sys.stdout.buffer.write(line)
             sys.stdout.buffer.flush()
             text = line.decode("utf-8", "replace").rstrip("\n")
+            refusals.read(text)
             if work.read(text):
                 say([work.told()])
             if VERDICT.match(text):
@@ -444,6 +470,7 @@ def main(words: List[str]) -> int:
     say(watch.table())
     dear = watch.dear()
     say(dear)
+    say(refusals.lines)
     status = gate.returncode if gate.returncode >= 0 else 128 - gate.returncode
     return status or int(strict and bool(dear))
 
