@@ -2,7 +2,7 @@
 use Rattle.std.proofs.Common.{◌≡◌, ℕ, zero, suc, ◌<◌, List, [], ◌∷◌, ◌++◌, Vec, Global, get_or, length, map, slice_index}
 use Rattle.std.proofs.Common.{refl, sym, ap, ◌∙◌, append_assoc, append-nil, arith}
 use Rattle.std.specs.Fmt.{decimal}
-use Rattle.std.specs.List.{flat_map, range_with_len, zip}
+use Rattle.std.specs.List.{flat_map, zip}
 use Rattle.std.proofs.lemmas.Grind.{get_or_default_zero}
 use Rattle.std.proofs.lemmas.List.{ext_get_or, get_or-map, length-map}
 use Rattle.std.proofs.lemmas.List.FromFn.{get_or-map-range_with_len, length-map-range_with_len}
@@ -15,7 +15,7 @@ use Rattle.clear_report.proofs.Begun.{as_many_heads, head_at}
 use Rattle.clear_report.proofs.Lines.{line_ends}
 use Rattle.clear_report.proofs.Pieces.{all_of}
 use Rattle.clear_stress.specs.Waiting.{paid_line, paid_lines, waiting_text}
-use Rattle.clear_stress.specs.declared.blocks.Waiting.{Waiting}
+use Rattle.clear_stress.specs.declared.blocks.UnwrittenBlock.{UnwrittenBlock}
 use Rattle.clr_edge.proofs.Passed.{both_at, both_there}
 
 -- what stands in a place of a list
@@ -69,7 +69,7 @@ module _ (net : Net) (heads : List (Vec ℕ Global)) (P : List ℕ) (are : AreHe
   lines_are = all_of paid_line (payment_line net P) (zip heads P) (debt_numbers net) same_lines
 
   -- and the block is that of the scenario
-  pub block_waits : (name defaults : List ℕ) (w : Waiting) → w.above.items ≡ scenario_block name payments_header []
+  pub block_waits : (name defaults : List ℕ) (w : UnwrittenBlock) → w.above.items ≡ scenario_block name payments_header []
       → w.paid.items ≡ P → w.below.items ≡ defaults
       → waiting_text heads w ≡ scenario_block name (payments_text net P) defaults
   block_waits name defaults w above paid below =

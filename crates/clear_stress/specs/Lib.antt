@@ -1,2 +1,3 @@
 pub mod Told
 pub mod Waiting
+pub mod Cases

@@ -14,7 +14,7 @@ use clr_edge::{Sink, SinkFault, pass, put_all};
 /// The block of a scenario as it waits to be written: what stands above the lines of its payments,
 /// what is paid on each debt, in file order, and what stands below these lines.
 #[derive(Drop)]
-pub struct Waiting {
+pub struct UnwrittenBlock {
     pub above: Vec<u8>,
     pub paid: Vec<u32>,
     pub below: Vec<u8>,
@@ -25,7 +25,7 @@ pub struct Waiting {
 #[derive(Drop)]
 pub struct Blocks {
     pub heads: Vec<Vec<u8>>,
-    pub all: Vec<Waiting>,
+    pub all: Vec<UnwrittenBlock>,
 }
 
 impl Blocks {
@@ -50,7 +50,7 @@ fn pass_blocks<S: Sink>(
     sink: &mut S,
     room: &mut Vec<u8>,
     heads: &[Vec<u8>],
-    blocks: &[Waiting],
+    blocks: &[UnwrittenBlock],
 ) -> Result<(), SinkFault>
     ensures { PassesOn S.counts_faults_alone (on_sink S.written S.faults sink.old sink.new)
         room.old.items room.new.items
@@ -68,7 +68,7 @@ fn pass_others<S: Sink>(
     sink: &mut S,
     room: &mut Vec<u8>,
     heads: &[Vec<u8>],
-    blocks: &[Waiting],
+    blocks: &[UnwrittenBlock],
 ) -> Result<(), SinkFault>
     ensures { PassesOn S.counts_faults_alone (on_sink S.written S.faults sink.old sink.new)
         room.old.items room.new.items
@@ -80,7 +80,7 @@ fn pass_others<S: Sink>(
     Ok(())
 }
 
-impl Waiting {
+impl UnwrittenBlock {
     // Passes the text of the block.
     fn pass_block<S: Sink>(
         &self,

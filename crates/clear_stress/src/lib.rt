@@ -1,5 +1,5 @@
-//! Stress: the network that each scenario leaves is cleared on a board of its own, and told in a block
-//! of text.
+//! Stress: the network that each scenario leaves is cleared on a board of its own, and told in a
+//! block of text.
 //!
 //! [`tell_scenarios`] clears the networks of all scenarios, four at once, and answers their
 //! [`Blocks`], of whose payments the lines are made when they are written.
@@ -7,8 +7,6 @@
 
 mod blocks;
 mod scenarios;
-mod standing;
 
-pub use blocks::{Blocks, Waiting};
+pub use blocks::{Blocks, UnwrittenBlock};
 pub use scenarios::tell_scenarios;
-pub use standing::{defaults_of, stand};

@@ -3,17 +3,17 @@ ghost use Rattle.cascade.specs.MoreCash.{IsOfOtherCash};
 ghost use Rattle.clear_core.specs.Buffers.{AreInLimit};
 ghost use Rattle.clear_core.specs.Clearing.{least};
 ghost use Rattle.clear_report.specs.Blocks.{scenario_block};
+ghost use Rattle.clear_report.specs.Least.{defaults_report};
 ghost use Rattle.clear_report.specs.Text.{payments_header, payments_text};
-ghost use Rattle.clear_stress.specs.Told.{block_of, defaults_report};
+ghost use Rattle.clear_stress.specs.Told.{block_of};
 ghost use Rattle.clear_stress.specs.Waiting.{WaitsAs, WaitsAt, waiting_text};
 ghost use Rattle.settle.specs.Offices.{AreOffices};
 ghost use Rattle.std.specs.Prelude.{◌≡◌, [], All, IfOk, length, map};
 ghost use Rattle.stress.specs.Shocks.{IsScenarioOf};
 
-use crate::blocks::{Blocks, Waiting};
-use crate::standing::defaults_of;
+use crate::blocks::{Blocks, UnwrittenBlock};
 use bank_worker::Office;
-use clear_report::{line_heads, scenario_text};
+use clear_report::{least_default_text, line_heads, payments_head, scenario_text};
 use clr_edge::Gate;
 use clr_net::{MAX_BANKS, Mem, Name, Network};
 use settle::{Engine, Settled, offices_of, settle_alone};
@@ -52,15 +52,15 @@ struct Shocks<'a, G: Gate> {
     scenarios: &'a [Scenario],
 }
 
-// The desk at which scenarios are cleared: a copy of their network, whose cash alone changes, and the
-// offices of the workers on it.
+// The desk at which scenarios are cleared: a copy of their network, whose cash alone changes, and
+// the offices of the workers on it.
 #[derive(Drop)]
 struct Copied {
     net: Network,
     offices: Vec<Office>,
 }
 
-impl<'a, G: Gate> Piecework<Waiting, Copied> for Shocks<'a, G> {
+impl<'a, G: Gate> Piecework<UnwrittenBlock, Copied> for Shocks<'a, G> {
     ghost can = { λ w. All (IsScenarioOf w.net.now) w.scenarios.now };
 
     ghost size = { λ w. length w.scenarios.now };
@@ -77,7 +77,7 @@ impl<'a, G: Gate> Piecework<Waiting, Copied> for Shocks<'a, G> {
         Ok(Copied { net, offices })
     }
 
-    fn piece(&self, desk: Copied, place: usize) -> Result<(Waiting, Copied), Mem> {
+    fn piece(&self, desk: Copied, place: usize) -> Result<(UnwrittenBlock, Copied), Mem> {
         let Copied {
             net: mut left,
             mut offices,
@@ -101,15 +101,15 @@ impl<'a, G: Gate> Piecework<Waiting, Copied> for Shocks<'a, G> {
 }
 
 // The block of a scenario of this name, which leaves a network with these least payments.
-fn wait(alloc: Global, left: &Network, name: &Name, paid: &[u64]) -> Result<Waiting, Mem>
+fn wait(alloc: Global, left: &Network, name: &Name, paid: &[u64]) -> Result<UnwrittenBlock, Mem>
     requires { paid.now ≡ least left.now }
     ensures { IfOk result (λ w. WaitsAs left.now w (scenario_block name.now
         (payments_text left.now (least left.now)) (defaults_report left.now))) }
 {
     prove!(left.banks() <= MAX_BANKS);
     let above = block_head(alloc, name)?;
-    let below = defaults_of(alloc, left, paid)?;
-    Ok(Waiting {
+    let below = least_default_text(alloc, left, paid)?;
+    Ok(UnwrittenBlock {
         above,
         paid: in_four_bytes(alloc, paid)?,
         below,
@@ -120,7 +120,7 @@ fn wait(alloc: Global, left: &Network, name: &Name, paid: &[u64]) -> Result<Wait
 fn block_head(alloc: Global, name: &Name) -> Result<Vec<u8>, Mem>
     ensures { IfOk result (λ text. text.items ≡ scenario_block name.now payments_header []) }
 {
-    scenario_text(alloc, name, b"debtor,creditor,class,claim,paid\n", b"")
+    scenario_text(alloc, name, payments_head(), b"")
 }
 
 // Payments, none above what a debt may claim, in half the bytes.

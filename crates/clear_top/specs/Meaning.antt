@@ -12,13 +12,14 @@ use Rattle.clear_report.specs.CostBounds.{cost_bounds_text}
 use Rattle.clear_report.specs.Costs.{costs_text}
 use Rattle.clear_report.specs.Impact.{impact_text}
 use Rattle.clear_report.specs.Journals.{journal_and_rounds, lawful_and_payments}
+use Rattle.clear_report.specs.Least.{defaults_report, least_standings}
 use Rattle.clear_report.specs.Outcomes.{outcomes_text}
 use Rattle.clear_report.specs.Rescues.{rescued_text}
 use Rattle.clear_report.specs.Savings.{savings_text}
 use Rattle.clear_report.specs.Summary.{summary_lines}
 use Rattle.clear_report.specs.Text.{checked_text, payments_text}
 use Rattle.clear_report.specs.Words.{one_above_other}
-use Rattle.clear_stress.specs.Told.{block_of, defaults_report, least_standings}
+use Rattle.clear_stress.specs.Told.{block_of}
 use Rattle.clear_words.specs.declared.job.Job.{Job}
 use Rattle.clear_words.specs.declared.show.Show.{Show}
 use Rattle.clear_words.specs.declared.show.Show.TheVariants as show

@@ -7,8 +7,9 @@ ghost use Rattle.clr_net.specs.Lines.{line};
 ghost use Rattle.raise_journal.specs.Texts.{journal_header, rounds_line};
 ghost use Rattle.std.specs.Prelude.{◌≡◌, ◌++◌, IfOk, List, None, Some};
 
-use clear_report::{bounds_text, pay_text, rounds_text, summary_text};
-use clear_stress::{defaults_of, stand};
+use clear_report::{
+    bounds_text, least_default_text, least_standings, pay_text, rounds_text, summary_text,
+};
 use clear_words::{Job, Show, Task};
 use clr_edge::Text;
 use clr_net::{Mem, Network};
@@ -38,7 +39,7 @@ pub fn shown(
         ≡ shown_of job.now.task job.now.show net.now journal rounds) }
 {
     match job.task {
-        Task::Defaults => alone(alloc, defaults_of(alloc, net, paid)?),
+        Task::Defaults => alone(alloc, least_default_text(alloc, net, paid)?),
         Task::Gen => alone(alloc, summary_of(alloc, net, paid)?),
         Task::Bounds => alone(alloc, bounds_of(alloc, net, paid)?),
         _ => cleared(alloc, net, job.show, paid, rounds),
@@ -100,7 +101,7 @@ fn summary_of(alloc: Global, net: &Network, paid: &[u64]) -> Result<Vec<u8>, Mem
     requires { paid.now ≡ least net.now }
     ensures { IfOk result (λ text. text.items ≡ summary_report net.now) }
 {
-    let standings = stand(alloc, net, paid)?;
+    let standings = least_standings(alloc, net, paid)?;
     summary_text(alloc, net, paid, standings.as_slice())
 }
 
@@ -109,7 +110,7 @@ fn bounds_of(alloc: Global, net: &Network, paid: &[u64]) -> Result<Vec<u8>, Mem>
     requires { paid.now ≡ least net.now }
     ensures { IfOk result (λ text. text.items ≡ bounds_report net.now) }
 {
-    let standings = stand(alloc, net, paid)?;
+    let standings = least_standings(alloc, net, paid)?;
     let Upper { greatest, waves } = upper(alloc, net)?;
     bounds_text(
         alloc,

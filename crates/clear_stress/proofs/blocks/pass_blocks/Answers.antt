@@ -6,12 +6,12 @@ use Rattle.std.proofs.lemmas.Result.{err_from_is_err_and}
 use Rattle.clear_report.specs.Blocks.{stress_text}
 use Rattle.clear_report.specs.Words.{empty_line}
 use Rattle.clear_stress.specs.Waiting.{waiting_text}
-use Rattle.clear_stress.specs.declared.blocks.Waiting.{Waiting}
+use Rattle.clear_stress.specs.declared.blocks.UnwrittenBlock.{UnwrittenBlock}
 use Rattle.clr_edge.proofs.Passed.{front_stops, then_pass}
 use Rattle.clear_stress.proofs.blocks.pass_blocks.Goals as goal
 
 -- the text of all blocks is that of the first, and of each other below an empty line
-module _ (text : Waiting → List ℕ) (all : List Waiting) (first : Waiting) (others : List Waiting) (are : all ≡ first ∷ others) where
+module _ (text : UnwrittenBlock → List ℕ) (all : List UnwrittenBlock) (first : UnwrittenBlock) (others : List UnwrittenBlock) (are : all ≡ first ∷ others) where
   text_is : stress_text (map text all) ≡ text first ++ flat_map (λ block. empty_line ++ text block) others
   text_is = rw are (ap (λ t. text first ++ t) (flat_map-map (λ block. empty_line ++ block) text others))
 

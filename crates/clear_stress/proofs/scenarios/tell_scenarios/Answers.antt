@@ -1,5 +1,5 @@
 -- Each block waits to be that of its scenario.
-use Rattle.std.proofs.Common.{◌≡◌, ◌+◌, ◌-◌, [], get_or, length, map, ap, ◌∙◌, arith}
+use Rattle.std.proofs.Common.{◌≡◌, ◌+◌, ◌-◌, [], get_or, length, ap, ◌∙◌, arith}
 use Rattle.clear_stress.specs.Told.{block_of}
 use Rattle.clear_stress.specs.Waiting.{WaitsAt, waiting_text}
 use Rattle.shares.proofs.InOrder.{read_list}

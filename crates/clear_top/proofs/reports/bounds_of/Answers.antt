@@ -3,7 +3,7 @@ use Rattle.std.proofs.lemmas.List.FromFn.{length-map-range_with_len}
 use Rattle.cascade.proofs.Limits.{clearing_over}
 use Rattle.clear_report.specs.Bounds.{bounds_tables}
 use Rattle.upper.specs.Bounds.{greatest, wave, waves}
-use Rattle.clear_stress.specs.Told.{least_standings}
+use Rattle.clear_report.specs.Least.{least_standings}
 use Rattle.clear_stress.proofs.Places.{least_places}
 use Rattle.clear_top.proofs.reports.bounds_of.Goals as goal
 

@@ -5,9 +5,10 @@ use Rattle.clear_core.specs.Clearing.{least}
 use Rattle.clear_report.specs.Blocks.{scenario_block}
 use Rattle.clear_report.specs.Text.{AreHeadsOf, payments_text}
 use Rattle.settle.specs.Offices.{AreOffices}
-use Rattle.clear_stress.specs.Told.{block_of, defaults_report}
+use Rattle.clear_report.specs.Least.{defaults_report}
+use Rattle.clear_stress.specs.Told.{block_of}
 use Rattle.clear_stress.proofs.Begun.{heads_kept}
-use Rattle.clear_stress.proofs.scenarios.ShocksPieceworkWaitingCopied.piece.Goals as goal
+use Rattle.clear_stress.proofs.scenarios.ShocksPieceworkUnwrittenBlockCopied.piece.Goals as goal
 
 -- the network that the scenario leaves differs from the copy in cash alone
 pub settle_alone-requires : goal.settle_alone-requires

@@ -1,6 +1,6 @@
 use Rattle.std.proofs.Common.{map, ap}
 use Rattle.clr_net.specs.Net.{of_cash}
-use Rattle.clear_stress.proofs.scenarios.ShocksPieceworkWaitingCopied.desk.Goals as goal
+use Rattle.clear_stress.proofs.scenarios.ShocksPieceworkUnwrittenBlockCopied.desk.Goals as goal
 
 pub offices_of-requires : goal.offices_of-requires
 offices_of-requires g c = record { workers = c.args.self.now.engine.now.limits.some_workers }

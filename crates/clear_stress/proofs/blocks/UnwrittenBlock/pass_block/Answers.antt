@@ -1,7 +1,7 @@
 -- What stands above the lines, the lines, and what stands below them, one after another.
 use Rattle.std.proofs.lemmas.Result.{err_from_is_err_and}
 use Rattle.clr_edge.proofs.Passed.{front_stops, then_pass}
-use Rattle.clear_stress.proofs.blocks.Waiting.pass_block.Goals as goal
+use Rattle.clear_stress.proofs.blocks.UnwrittenBlock.pass_block.Goals as goal
 
 pub returns-in_err-pass_lines : goal.returns-in_err-pass_lines
 returns-in_err-pass_lines g c =
