@@ -59,7 +59,7 @@ class Bounded(Case):
     def faults(self, *files, **more):
         """The faults of some files, and how many searches were made for the hints on them."""
         with mock.patch("difflib.get_close_matches", wraps=difflib.get_close_matches) as searches:
-            return linter.faults_of(*files, **more), searches.call_count
+            return linter.Linter(*files, **more).faults, searches.call_count
 
     def test_many_unknown_names_have_few_searches(self):
         banks = b"name,cash,rule\n" + b"".join(b"Bank %d of the north,1,order\n" % n for n in range(1000))
@@ -71,7 +71,7 @@ class Bounded(Case):
         self.assertTrue(0 < searches <= 50, searches)
         # The hints are those of before.
         few = b"debtor,creditor,class,claim\nBANK 7 of the north,Bank 1 of the north,1,1\n"
-        self.assertIn("the banks file has 'Bank 7 of the north'", linter.faults_of(banks, few)[0].hint)
+        self.assertIn("the banks file has 'Bank 7 of the north'", linter.Linter(banks, few).faults[0].hint)
 
     def test_many_other_faults_have_few_searches(self):
         banks = b"name,cash,rule\n" + b"".join(b"B%d,1,jeferson%d\n" % (n, n) for n in range(100_000))

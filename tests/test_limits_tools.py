@@ -79,14 +79,12 @@ class Tools(Case):
             most = LIMITS[limits]
             for count, kinds in ((most.banks, []), (most.banks + 1, ["too many"])):
                 banks = b"name,cash,rule\n" + b"".join(b"N%d,1,order\n" % n for n in range(count))
-                self.assertEqual([fault.kind for fault in linter.faults_of(banks, DEBTS, limits)], kinds)
+                self.assertEqual([fault.kind for fault in linter.Linter(banks, DEBTS, limits).faults], kinds)
             claims = [10**6] * (most.owed // 10**6)
             for more, kinds in (([], []), ([1], ["total"])):
                 rows = b"".join(b"N%d,N%d,1,%d\n" % (at, at + 1, claim) for at, claim in enumerate([*claims, *more]))
-                self.assertEqual(
-                    [fault.kind for fault in linter.faults_of(BANKS[: BANKS.index(b"N100,")], DEBTS + rows, limits)],
-                    kinds,
-                )
+                whole = linter.Linter(BANKS[: BANKS.index(b"N100,")], DEBTS + rows, limits)
+                self.assertEqual([fault.kind for fault in whole.faults], kinds)
 
     def test_the_audit_follows_a_journal_by_the_limits(self):
         banks = BANKS.replace(b"N0,0,", b"N0,7,")

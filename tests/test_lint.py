@@ -381,7 +381,7 @@ class Lint(Case):
         counts = {}
         with concurrent.futures.ThreadPoolExecutor(8) as pool:
             for files, first in zip(made, pool.map(self.first_of_program, range(len(made)), made)):
-                faults = linter.faults_of(**files)
+                faults = linter.Linter(**files).faults
                 said = (
                     f"{faults[0].file} row {faults[0].row}: {faults[0].kind} ({lint.NUMBERS[faults[0].kind]})"
                     if faults
@@ -444,13 +444,13 @@ class Lint(Case):
             files = {**NETWORK, "scenarios": text.encode()}
             self.assertEqual(self.first_of_program(at, files), "", text)
             # A Python that knows TOML 1.1 takes them all, and any Python the last.
-            kinds = [fault.kind for fault in linter.faults_of(**files)]
+            kinds = [fault.kind for fault in linter.Linter(**files).faults]
             self.assertIn(kinds, [[], ["toml"]] if at + 1 < len(texts) else [[]])
         values = ['"\\e"', "07:30", "[" * 81 + "]" * 81, "1e999"]
         for at, text in enumerate(values):
             files = {**NETWORK, "scenarios": f"[[scenario]]\nname = {text}\n".encode()}
             self.assertRegex(self.first_of_program(at, files), "toml|shape|name")
-            self.assertIn(linter.faults_of(**files)[0].kind, ["toml", "shape", "name"])
+            self.assertIn(linter.Linter(**files).faults[0].kind, ["toml", "shape", "name"])
         for name in ("clearing-lint", "clearing-shock"):
             self.assertIn("TOML 1.1", self.made(name, "--help"))
 

@@ -14,49 +14,69 @@ Ends with 0, or with 1 and a message where a file is not as it should be, or wit
 """
 import argparse
 from decimal import Decimal
-from typing import Callable, Container, Dict, Iterable, Iterator, List, Tuple, Union
+from typing import Callable, Container, Dict, Iterable, Iterator, List, NamedTuple, Tuple, Union
 
 from clearing_client.texts import DEBTS
 
 from .. import cases, cli, files, money
-from ..runner import ToolError, StrPath, command
+from ..runner import StrPath, ToolError, command
 from ..texts import number, read_accounts, read_payments, records_in
 from .workbook import book_of, is_book
 
 
 AsAmount = Callable[[int], object]
-DebtRecord = Tuple[int, str, str, int, int, int]
-"""A row, the debtor, the creditor, the class, the claim, and what is shown of it."""
-Debts = Dict[Tuple[str, str, int], Tuple[int, int]]
-"""The claim, and what is shown of it, by debtor, creditor and class."""
+
+
+class DebtRecord(NamedTuple):
+    """A debt of a file: its row, its claim, and what is shown of it."""
+
+    row: int
+    debtor: str
+    creditor: str
+    class_: int
+    claim: int
+    shown: int
+
+
+class Amounts(NamedTuple):
+    """The claim of a debt, and what is shown of it."""
+
+    claim: int
+    shown: int
+
+
+Debts = Dict[Tuple[str, str, int], Amounts]
+"""The amounts of each debt, by debtor, creditor and class."""
 
 
 def debts_in(name: StrPath) -> Iterator[DebtRecord]:
     """The debts of a debts file, each with its row and its claim twice: what is owed is what is shown."""
     for row, (debtor, creditor, class_, claim) in records_in(name, DEBTS)[1]:
-        yield row, debtor, creditor, number(name, row, class_), number(name, row, claim), number(name, row, claim)
+        units = number(name, row, claim)
+        yield DebtRecord(row, debtor, creditor, number(name, row, class_), units, units)
 
 
 def debts_of(name: StrPath, records: Iterable[DebtRecord], banks: Container[str]) -> Debts:
     """For each debt its debtor, creditor, class and claim, and what is shown of it."""
     debts: Debts = {}
-    for row, debtor, creditor, class_, claim, amount in records:
-        for bank in (debtor, creditor):
+    for one in records:
+        for bank in (one.debtor, one.creditor):
             if bank not in banks:
-                raise ToolError(f"{name} row {row}: no bank has the name {bank!r}")
-        key = (debtor, creditor, class_)
+                raise ToolError(f"{name} row {one.row}: no bank has the name {bank!r}")
+        key = (one.debtor, one.creditor, one.class_)
         if key in debts:
-            raise ToolError(f"{name} row {row}: a second debt of {debtor} to {creditor} of class {class_}")
-        debts[key] = (claim, amount)
+            what = f"a second debt of {one.debtor} to {one.creditor} of class {one.class_}"
+            raise ToolError(f"{name} row {one.row}: {what}")
+        debts[key] = Amounts(one.claim, one.shown)
     return debts
 
 
 def paid_of(payments: str, name: str, banks: Container[str], debts: Debts) -> Debts:
     """What is paid on each debt, by a file of payments of just these debts, which are those of a file of this name."""
-    records = ((row, *payment) for row, payment in enumerate(read_payments(payments), 1))
+    records = (DebtRecord(row, *payment) for row, payment in enumerate(read_payments(payments), 1))
     paid = debts_of(payments, records, banks)
     for key in {**debts, **paid}:
-        if key not in paid or key not in debts or paid[key][0] != debts[key][0]:
+        if key not in paid or key not in debts or paid[key].claim != debts[key].claim:
             raise ToolError(
                 f"{payments} is not of the debts in {name}: see the debt of {key[0]} to {key[1]} of "
                 f"class {key[2]}"
@@ -78,7 +98,7 @@ def matrix_of(taken: cases.Taken, args: argparse.Namespace, as_amount: AsAmount)
     cells: Dict[Tuple[str, str], int] = {}
     for (debtor, creditor, class_), amounts in debts.items():
         if args.class_ in (None, class_):
-            cells[debtor, creditor] = cells.get((debtor, creditor), 0) + amounts[1]
+            cells[debtor, creditor] = cells.get((debtor, creditor), 0) + amounts.shown
     yield ["", *banks, *names]
     for debtor, own in banks.items():
         yield [debtor, *(as_amount(cells.get((debtor, creditor), 0)) for creditor in banks), *own]

@@ -28,7 +28,7 @@ import pathlib
 import sys
 import tempfile
 from decimal import Decimal
-from typing import IO, Callable, Dict, Iterable, Iterator, List, Mapping, Sequence, Union
+from typing import IO, Callable, Dict, Iterable, Iterator, List, Mapping, Sequence, Tuple, Union
 
 from clearing_client.errors import TextError
 from clearing_client.limits import MOST
@@ -42,7 +42,8 @@ from ..runner import ToolError, command
 from ..texts import parsed
 from .workbook import book_of, is_book
 
-AsAmount = Callable[[int], str]
+AsAmount = Callable[[int], Union[str, Decimal]]
+"""What writes units as an amount."""
 Content = Union[str, IO[bytes]]
 Value = Union[str, int, None]
 """What stands in a column: a name, a number, or whether something is so, where that is known."""
@@ -56,34 +57,35 @@ SHOWN: Mapping[object, str] = {True: "yes", False: "no", None: ""}
 
 
 @contextlib.contextmanager
-def opened(output: str) -> Iterator[IO[bytes]]:
-    """The bytes of a file, or of standard input, as they come."""
-    if output == "-":
-        yield sys.stdin.buffer
-        return
+def opened(output: str) -> Iterator[Tuple[str, IO[bytes]]]:
+    """What a file or standard input is called, and its bytes as they come. Fails where they cannot be read."""
+    name = "standard input" if output == "-" else output
     try:
-        file = open(output, "rb")
-    except OSError as fault:
-        raise ToolError(f"{output}: cannot be read: {fault}") from fault
-    with file:
-        yield file
+        if output == "-":
+            yield name, sys.stdin.buffer
+        else:
+            with open(output, "rb") as file:
+                yield name, file
+    except (OSError, UnicodeDecodeError) as fault:
+        raise ToolError(f"{name}: cannot be read: {fault}") from fault
+
+
+def text_of(stream: IO[bytes], first: bytes = b"") -> str:
+    """The text of what is left of a stream, behind a line that was read of it already."""
+    return (first + files.bytes_in(stream, MOST_BYTES)).decode("utf-8-sig").replace("\r\n", "\n")
 
 
 def tables_of(output: str, as_amount: AsAmount, undo: contextlib.ExitStack) -> Dict[str, Content]:
     """The files of the tables of a text, by their names. What `stress` printed is read one scenario at a time, and its
     tables are kept in files without a name until they are written."""
-    name = "standard input" if output == "-" else output
-    with opened(output) as stream:
-        try:
-            first = stream.readline(MOST_LINE)
-            if len(first) == MOST_LINE:
-                raise OSError(errno.EFBIG, f"its first line is longer than {MOST_LINE - 1:,} bytes")
-            start = first.decode("utf-8-sig")
-            if start.startswith("scenario,") and start.rstrip("\r\n") != SUMS:
-                return stress_tables(name, itertools.chain([first], stream), as_amount, undo)
-            text = (first + files.bytes_in(stream, MOST_BYTES)).decode("utf-8-sig").replace("\r\n", "\n")
-        except (OSError, UnicodeDecodeError) as fault:
-            raise ToolError(f"{name}: cannot be read: {fault}") from fault
+    with opened(output) as (name, stream):
+        first = stream.readline(MOST_LINE)
+        if len(first) == MOST_LINE:
+            raise OSError(errno.EFBIG, f"its first line is longer than {MOST_LINE - 1:,} bytes")
+        start = first.decode("utf-8-sig")
+        if start.startswith("scenario,") and start.rstrip("\r\n") != SUMS:
+            return stress_tables(name, itertools.chain([first], stream), as_amount, undo)
+        text = text_of(stream, first)
     return {table: "".join(csv_lines(each, as_amount)) for table, each in parsed(name, text).tables().items()}
 
 
@@ -105,39 +107,30 @@ def stress_tables(
     return dict(texts)
 
 
-def cell_of(name: str, value: Value, as_amount: AsAmount) -> str:
-    """A value of a column as a text."""
-    if value is None or isinstance(value, bool):
-        return SHOWN[value]
-    return as_amount(value) if name in AMOUNTS and isinstance(value, int) else str(value)
+def sheets_of(output: str, as_amount: AsAmount) -> Dict[str, List[Sequence[object]]]:
+    """The tables of a text as the sheets of a workbook: the records of each by its name, the header first."""
+    with opened(output) as (name, stream):
+        text = text_of(stream)
+    tables = parsed(name, text).tables()
+    return {title: records_of(table, lambda units: Decimal(as_amount(units))) for title, table in tables.items()}
+
+
+def records_of(table: AnyTable, as_amount: AsAmount) -> List[Sequence[object]]:
+    """The records of a table, its header first."""
+    columns = [[cell_of(name, value, as_amount) for value in table.column(name)] for name in table.columns]
+    return [table.columns, *zip(*columns)]
+
+
+def cell_of(name: str, value: Value, as_amount: AsAmount) -> Union[str, int, Decimal]:
+    """A value of a column as a number or a text."""
+    if value is None or isinstance(value, (bool, str)):
+        return value if isinstance(value, str) else SHOWN[value]
+    return as_amount(value) if name in AMOUNTS else value
 
 
 def csv_lines(table: AnyTable, as_amount: AsAmount) -> List[str]:
     """The lines of a file of a table. No name has a comma, a quote or the end of a line."""
-    columns = [[cell_of(name, value, as_amount) for value in table.column(name)] for name in table.columns]
-    return [",".join(row) + "\n" for row in [table.columns, *zip(*columns)]]
-
-
-def value_of(name: str, value: Value, as_amount: AsAmount) -> Union[str, int, Decimal]:
-    """A value of a column as a number or a text."""
-    if value is None or isinstance(value, (bool, str)):
-        return value if isinstance(value, str) else SHOWN[value]
-    return Decimal(as_amount(value)) if name in AMOUNTS else value
-
-
-def sheets_of(output: str, as_amount: AsAmount) -> Dict[str, List[Sequence[object]]]:
-    """The tables of a text as the sheets of a workbook: the records of each by its name, the header first."""
-    name = "standard input" if output == "-" else output
-    with opened(output) as stream:
-        try:
-            text = files.bytes_in(stream, MOST_BYTES).decode("utf-8-sig").replace("\r\n", "\n")
-        except (OSError, UnicodeDecodeError) as fault:
-            raise ToolError(f"{name}: cannot be read: {fault}") from fault
-    sheets: Dict[str, List[Sequence[object]]] = {}
-    for title, table in parsed(name, text).tables().items():
-        columns = [[value_of(column, value, as_amount) for value in table.column(column)] for column in table.columns]
-        sheets[title] = [table.columns, *zip(*columns)]
-    return sheets
+    return [",".join(map(str, record)) + "\n" for record in records_of(table, as_amount)]
 
 
 @command("tidy")
