@@ -148,7 +148,8 @@ class OneFile(Case):
             used, here = set(re.findall(r"var\(--([a-z0-9-]+)", text)), set(re.findall(r"--([a-z0-9-]+):", text))
             self.assertEqual(used - known - here, set(), path.name)
         # Six sizes of letters, and a grid of 8 pixels.
-        self.assertEqual([tokens.pixels(f"t{at}") for at in range(6)], [12, 14, 16, 18, 24, 32])
+        sizes = [tokens.tokens_of("light")[f"t{at}"] for at in range(6)]
+        self.assertEqual([16 * float(size.removesuffix("rem")) for size in sizes], [12, 14, 16, 18, 24, 32])
         steps = [
             int(value.removesuffix("px"))
             for name, value in tokens.tokens_of("light").items()
