@@ -15,12 +15,21 @@ import subprocess
 import time
 
 from common import PACKAGES, PROGRAM, ROOT, clearing, tool
+from clearing_tools.drawing import web
 from clearing_tools.labels import shown
 from browser import D3
 from reports import PYTHON, TWELVE, Reader, Report, files_of, is_running, odd_net
 
 
 class TheFile(Report):
+    def test_a_line_of_a_script_that_is_in_no_form_that_is_read_is_told(self):
+        web.check_forms("a.mjs", 'import { b, c } from "./b.mjs";\nexport const d = b + c;\nconst important = 1;\n')
+        for name in web.modules():
+            self.assertIn(name, web.needed(name))
+        for line in ("export function f() {}", "export default 3;", "export { d };", 'import b from "./b.mjs";', 'import { b } from "./b.mjs"', 'import "./b.mjs";'):
+            with self.assertRaisesRegex(ValueError, "^a.mjs: this line is in no form that is read: "):
+                web.check_forms("a.mjs", f"{line}\n")
+
     def test_nothing_in_it_is_loaded_and_only_its_own_style_and_script_may_run(self):
         read = Reader(
             self.page(files_of(TWELVE), "--scenarios", TWELVE / "scenarios.toml", "--d3", self.file("d3.js", "0;"))
