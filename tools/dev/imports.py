@@ -141,8 +141,11 @@ def hidden_in(files: Mapping[str, pathlib.Path]) -> List[str]:
 def reached_by(below: Graph, names: Collection[str]) -> Set[str]:
     """All that some modules import, and what those import, and so on."""
     found: Set[str] = set()
-    for name in names:
-        found |= below[name] | reached_by(below, below[name])
+    waiting = list(names)
+    while waiting:
+        others = below[waiting.pop()] - found
+        found |= others
+        waiting += others
     return found
 
 
