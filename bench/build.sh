@@ -66,16 +66,8 @@ fi
 
 # The crates that are named, or all, and those that they stand on, lowest first.
 needed() {
-    awk -F: -v named="$named" '
-        { gsub(/#.*/, ""); sub(/ .*/, "", $1); if ($1 != "") { below[$1] = $2; names[++count] = $1 } }
-        function tell(name,  parts, n, i) {
-            if (name in told) return
-            told[name] = 1
-            n = split(below[name], parts, " ")
-            for (i = 1; i <= n; i++) if (parts[i] in below) tell(parts[i])
-            print name
-        }
-        END { for (i = 1; i <= count; i++) if (named == "" || index(named " ", " " names[i] " ")) tell(names[i]) }' "$root/crates.txt"
+    # shellcheck disable=SC2086
+    "$root/tools/dev/crates.py" --below $named
 }
 
 work=$(mktemp -d) || exit 1

@@ -1,3 +1,4 @@
+#!/usr/bin/env python3
 """Times the way from sheets to a checked folder of evidence and a report, by the commands of docs/DATA.md, for each set
 of sheets.
 

@@ -11,12 +11,12 @@ TABLE is one of
   rounds   one round and all of them beside reading alone; and a round that moves one unit, with 19,990 debts at rest
            beside it and without: of `clear` (INPUT `unit`) and of `bounds` (INPUT `fall`)
   units    the hardest lawful networks: a unit goes to and fro in each round. Beside `clear` of the same network with
-  cash enough scenarios  `outcomes` of a hundred scenarios beside `clear` by one worker: cuts, five banks ruined, and
-  draws that are
+           cash enough
+  scenarios  `outcomes` of a hundred scenarios beside `clear` by one worker: cuts, five banks ruined, and draws that are
            not alike, each told by the scenario; with `--other` by another build as well
   reading  files read, and a journal of a million raises printed and replayed (INPUT `journal`), beside `wc` of the
-  same bytes peer     everything beside an unverified peer, plain Rust that reads the same files and prints the same
-  texts:
+           same bytes
+  peer     everything beside an unverified peer, plain Rust that reads the same files and prints the same texts:
            payments of a network, files of 8 MB (INPUT `full`), payments with their journal (`both`), a journal replayed
            and a hundred scenarios (`stress`)
   wide     networks of the wide limits: `check`, `clear` and `central` on 10,000 banks and 1,000,000 debts beside the

@@ -34,6 +34,8 @@ class BuildTimes(Case):
         self.root = self.folder / "repository"
         (self.root / "bench").mkdir(parents=True)
         shutil.copy(ROOT / "bench/build.sh", self.root / "bench")
+        (self.root / "tools/dev").mkdir(parents=True)
+        shutil.copy(ROOT / "tools/dev/crates.py", self.root / "tools/dev")
         (self.root / "crates.txt").write_text("top: low\nlow:\nbeside:\n")
         for name in ("top", "low", "beside"):
             (self.root / "crates" / name / "src").mkdir(parents=True)

@@ -20,7 +20,8 @@ class Quick(Case):
         rt.chmod(0o755)
         self.root = self.folder / "repository"
         (self.root / "tools/dev").mkdir(parents=True)
-        shutil.copy(ROOT / "tools/dev/quick.sh", self.root / "tools/dev")
+        for name in ("quick.sh", "crates.py"):
+            shutil.copy(ROOT / "tools/dev" / name, self.root / "tools/dev")
         (self.root / "crates.txt").write_text("top: middle low # the last\nmiddle: low csv\nlow:\nbeside:\n")
         for name in ("top", "middle", "low", "beside"):
             (self.root / "crates" / name / "src").mkdir(parents=True)

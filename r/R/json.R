@@ -1,5 +1,6 @@
 # JSON, as far as a case needs it: objects are lists with names, arrays lists without, and `null` is NULL.
 
+# The value of a text of JSON; fails with what is wrong in it.
 read_json <- function(text) {
   # Words, numbers, texts and signs, with the blanks between them left out.
   pattern <- "\"(?:[^\"\\\\\\x00-\\x1f]|\\\\.)*\"|[-+.0-9eE]+|true|false|null|[][{}:,]|[^ \\t\\r\\n]"
@@ -51,7 +52,8 @@ json_text <- function(token) {
   if (!startsWith(token, "\"")) fail(sprintf("not JSON: %s where a text was expected", shQuote(token)))
   inner <- substring(token, 2, nchar(token) - 1)
   one <- function(escape) {
-    known <- c("\\\"" = "\"", "\\\\" = "\\", "\\/" = "/", "\\b" = "\b", "\\f" = "\f", "\\n" = "\n", "\\r" = "\r", "\\t" = "\t")
+    known <- c("\\\"" = "\"", "\\\\" = "\\", "\\/" = "/", "\\b" = "\b",
+               "\\f" = "\f", "\\n" = "\n", "\\r" = "\r", "\\t" = "\t")
     if (escape %in% names(known)) return(known[[escape]])
     codes <- strtoi(regmatches(escape, gregexpr("[0-9a-fA-F]{4}", escape))[[1]], 16L)
     if (length(codes) == 2) return(intToUtf8(65536 + (codes[1] - 55296) * 1024 + codes[2] - 56320))
@@ -75,7 +77,9 @@ json_text <- function(token) {
 }
 
 # Whole numbers without an exponent, others as short as they are exact.
-json_number <- function(value) if (value == floor(value)) format(value, scientific = FALSE, digits = 16) else format(value, digits = 15)
+json_number <- function(value) {
+  if (value == floor(value)) format(value, scientific = FALSE, digits = 16) else format(value, digits = 15)
+}
 
 json_quoted <- function(text) {
   text <- gsub("\\", "\\\\", enc2utf8(text), fixed = TRUE)

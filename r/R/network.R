@@ -2,9 +2,6 @@
 
 RULES <- c("order", "equal", "losses", "jefferson", "webster", "adams")
 
-# Beyond this not every whole number is a number of R.
-EXACT <- 2^53
-
 # Whole amounts of at least 0 as text; fails at what is not one, with the name of the column.
 whole_text <- function(values, column) {
   if (is.factor(values)) values <- as.character(values)
@@ -16,7 +13,9 @@ whole_text <- function(values, column) {
   } else {
     wrong <- rep(TRUE, length(values))
   }
-  if (any(wrong)) fail(sprintf("%s, row %d: not a whole number of units from 0 on that R has exactly", column, which(wrong)[1]))
+  if (any(wrong)) {
+    fail(sprintf("%s, row %d: not a whole number of units from 0 on that R has exactly", column, which(wrong)[1]))
+  }
   values
 }
 
@@ -29,7 +28,9 @@ column_or <- function(frame, name, default) {
 name_text <- function(values, column) {
   values <- enc2utf8(as.character(values))
   wrong <- is.na(values) | grepl("[\",\n\r]", values)
-  if (any(wrong)) fail(sprintf("%s, row %d: a name has a comma, a quote or a line end, or is missing", column, which(wrong)[1]))
+  if (any(wrong)) {
+    fail(sprintf("%s, row %d: a name has a comma, a quote or a line end, or is missing", column, which(wrong)[1]))
+  }
   values
 }
 
@@ -39,12 +40,14 @@ needed <- function(frame, columns, what) {
   if (length(missing)) fail(sprintf("%s has no column %s", what, missing[1]))
 }
 
+# A network of a data frame of banks and one of debts.
 bank_network <- function(banks, debts, rule = "webster", class = 1, limits = NULL) {
   needed(banks, c("name", "cash"), "banks")
   needed(debts, c("debtor", "creditor", "claim"), "debts")
   outside <- whole_text(column_or(banks, "outside", 0), "outside")
   is_second <- !is.null(banks[["outside"]])
-  fields <- list(name_text(banks$name, "name"), whole_text(banks$cash, "cash"), as.character(column_or(banks, "rule", rule)))
+  fields <- list(name_text(banks$name, "name"), whole_text(banks$cash, "cash"),
+                 as.character(column_or(banks, "rule", rule)))
   if (is_second) fields <- c(fields, list(outside))
   header <- if (is_second) "name,cash,rule,outside" else "name,cash,rule"
   rows <- list(name_text(debts$debtor, "debtor"), name_text(debts$creditor, "creditor"),
@@ -58,8 +61,8 @@ joined <- function(fields) if (length(fields[[1]])) do.call(paste, c(fields, sep
 # What the standard limits have; the wide ones are the program's to judge.
 STANDARD <- c(banks = 1000, debts = 20000, owed = 10000000, bytes = 8388608)
 
-# A network of the lines of its files, with the limits by which they are read: those that were said, else `wide` where it needs
-# them, which a message tells.
+# A network of the lines of its files, with the limits by which they are read: those that were said, else `wide` where
+# it needs them, which a message tells.
 as_network <- function(banks, debts, limits = NULL) {
   if (is.null(limits)) {
     what <- beyond(banks, debts)
@@ -79,7 +82,9 @@ beyond <- function(banks, debts) {
   files <- list(banks = banks, debts = debts)
   for (what in names(files)) {
     lines <- files[[what]]
-    if (sum(nchar(lines, "bytes") + 1) > STANDARD[["bytes"]]) return(sprintf("a %s file of more than %s bytes", what, shown(STANDARD[["bytes"]])))
+    if (sum(nchar(lines, "bytes") + 1) > STANDARD[["bytes"]]) {
+      return(sprintf("a %s file of more than %s bytes", what, shown(STANDARD[["bytes"]])))
+    }
     records <- sum(grepl("[^, \t\r\"]", lines, useBytes = TRUE)) - 1
     if (records > STANDARD[[what]]) return(sprintf("more than %s %s", shown(STANDARD[[what]]), what))
   }
@@ -89,11 +94,13 @@ beyond <- function(banks, debts) {
   NULL
 }
 
+# A network of its two files.
 read_network <- function(banks, debts, limits = NULL) {
   for (file in c(banks, debts)) if (!file.exists(file) || dir.exists(file)) fail(paste("cannot read", file), 3L)
   as_network(read_lines(banks), read_lines(debts), limits)
 }
 
+# Writes the two files of a network.
 write_network <- function(network, banks, debts) {
   write_text(network$banks_file, banks)
   write_text(network$debts_file, debts)
@@ -113,7 +120,8 @@ with_files <- function(network, call) {
 }
 
 print.bank_network <- function(x, ...) {
-  cat(sprintf("<network of %d banks and %d debts>\n", max(0, length(x$banks_file) - 1), max(0, length(x$debts_file) - 1)))
+  count <- function(lines) max(0, length(lines) - 1)
+  cat(sprintf("<network of %d banks and %d debts>\n", count(x$banks_file), count(x$debts_file)))
   invisible(x)
 }
 

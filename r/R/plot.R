@@ -25,9 +25,10 @@ plot.clearing_payments <- function(x, ..., most = 20) {
   before <- par(mar = c(4, 10, 3, 1))
   on.exit(par(before))
   short <- sum(sums$unpaid > 0)
-  barplot(heights, horiz = TRUE, las = 1, border = NA, col = c(PAID, UNPAID), cex.names = 0.8, xlab = "units of account", ...)
-  heading(sprintf("%d of %d debtors leave %s of %s units unpaid", short, nrow(sums), format(sum(sums$unpaid), big.mark = ","),
-                  format(sum(sums$claim), big.mark = ",")))
+  barplot(heights, horiz = TRUE, las = 1, border = NA, col = c(PAID, UNPAID), cex.names = 0.8,
+          xlab = "units of account", ...)
+  all_of <- function(column) format(sum(sums[[column]]), big.mark = ",")
+  heading(sprintf("%d of %d debtors leave %s of %s units unpaid", short, nrow(sums), all_of("unpaid"), all_of("claim")))
   legend("bottomright", c("paid", "unpaid"), fill = c(PAID, UNPAID), border = NA, bty = "n")
   invisible(sums)
 }

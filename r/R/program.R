@@ -9,6 +9,7 @@ STATUSES <- c(
   "6" = "there is not enough memory"
 )
 
+# The path of the program: what the environment variable CLEARING names, else what the path has.
 find_program <- function() {
   named <- Sys.getenv("CLEARING")
   if (nzchar(named)) {
@@ -22,11 +23,6 @@ find_program <- function() {
   normalizePath(found)
 }
 
-# A condition of class `clearing_error` with the status of the program, or NA where it was not run.
-fail <- function(message, status = NA_integer_) {
-  stop(structure(list(message = message, call = NULL, status = status), class = c("clearing_error", "error", "condition")))
-}
-
 # Runs the program with some words; gives the bytes that it printed, as one text in UTF-8, and its status.
 run_program <- function(words) {
   output <- tempfile("clearing-out-")
@@ -38,7 +34,8 @@ run_program <- function(words) {
   status <- system2(find_program(), quoted, stdout = output, stderr = message)
   told <- sub("^clearing: ", "", trimws(paste(read_lines(message), collapse = "\n")))
   if (!status %in% c(0L, 7L)) {
-    if (!nzchar(told)) told <- if (status %in% names(STATUSES)) STATUSES[[as.character(status)]] else paste("status", status)
+    known <- status %in% names(STATUSES)
+    if (!nzchar(told)) told <- if (known) STATUSES[[as.character(status)]] else paste("status", status)
     fail(told, as.integer(status))
   }
   list(lines = read_lines(output), status = as.integer(status))

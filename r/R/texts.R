@@ -8,7 +8,9 @@ WORDS <- c("name", "rule", "debtor", "creditor", "bank", "state", "gridlock", "s
 amounts <- function(text) {
   numbers <- suppressWarnings(as.numeric(text))
   long <- nchar(text) > 15
-  if (anyNA(numbers)) fail(sprintf("%s is no amount: the text of the program is not understood", text[is.na(numbers)][1]))
+  if (anyNA(numbers)) {
+    fail(sprintf("%s is no amount: the text of the program is not understood", text[is.na(numbers)][1]))
+  }
   if (any(numbers[long] > EXACT)) fail(sprintf("%s is more than R has exactly", text[long][1]))
   numbers
 }
@@ -17,11 +19,14 @@ amounts <- function(text) {
 table_of <- function(header, lines) {
   columns <- strsplit(header, ",", fixed = TRUE)[[1]]
   fields <- strsplit(lines, ",", fixed = TRUE)
-  if (length(fields) && any(lengths(fields) != length(columns))) fail("a line of the program's text has too many or too few fields")
+  if (length(fields) && any(lengths(fields) != length(columns))) {
+    fail("a line of the program's text has too many or too few fields")
+  }
   made <- lapply(seq_along(columns), function(place) {
     values <- vapply(fields, `[[`, "", place)
     # `falls` is a word beside a bank, and a number of banks beside a ruin.
-    is_word <- columns[place] %in% WORDS && !(columns[place] == "falls" && all(grepl("^[0-9]+$", values)) && length(values))
+    is_count <- columns[place] == "falls" && length(values) && all(grepl("^[0-9]+$", values))
+    is_word <- columns[place] %in% WORDS && !is_count
     if (is_word) values else amounts(values)
   })
   as.data.frame(setNames(made, columns), stringsAsFactors = FALSE)
@@ -68,7 +73,8 @@ result <- function(task, tables, more = character(0)) {
 # What only the text of the program says: the readers of each task.
 read_check <- function(lines) {
   parts <- parts_of(lines)
-  result("check", list(totals = counts_of(parts[[1]]), banks = plain_table(parts[[2]]), debts = plain_table(parts[[3]])))
+  result("check", list(totals = counts_of(parts[[1]]), banks = plain_table(parts[[2]]),
+                       debts = plain_table(parts[[3]])))
 }
 
 read_payments <- function(task, lines) result(task, list(payments = plain_table(lines)), "clearing_payments")
@@ -116,21 +122,24 @@ read_replay <- function(lines) {
     tables <- list(verdict = "lawful", raises = amounts(head[2]), payments = plain_table(parts_of(lines)[[2]]))
     return(result("replay", tables, "clearing_payments"))
   }
-  where <- switch(head[1], falls = c("entry", "last", "stamp"), unlawful = c("entry", "had", "allowed"), unfinished = "bank")
+  where <- switch(head[1], falls = c("entry", "last", "stamp"), unlawful = c("entry", "had", "allowed"),
+                  unfinished = "bank")
   values <- if (head[1] == "unfinished") list(paste(head[-1], collapse = ",")) else as.list(amounts(head[-1]))
   result("replay", list(verdict = head[1], where = as.data.frame(setNames(values, where), stringsAsFactors = FALSE)))
 }
 
 read_rescue <- function(lines) {
   first <- strsplit(lines[1], ",", fixed = TRUE)[[1]]
-  tables <- list(added = amounts(first[3]), short = amounts(sub("^short,", "", lines[2])), payments = plain_table(parts_of(lines)[[2]]))
+  tables <- list(added = amounts(first[3]), short = amounts(sub("^short,", "", lines[2])),
+                 payments = plain_table(parts_of(lines)[[2]]))
   result("rescue", tables, "clearing_payments")
 }
 
 read_costs <- function(lines) {
   parts <- parts_of(lines)
   read <- with_sums(parts[[2]])
-  result("costs", list(payments = plain_table(parts[[1]]), standings = read$table, totals = read$totals), "clearing_payments")
+  result("costs", list(payments = plain_table(parts[[1]]), standings = read$table, totals = read$totals),
+         "clearing_payments")
 }
 
 read_compress <- function(lines) {

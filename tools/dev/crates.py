@@ -1,10 +1,20 @@
+#!/usr/bin/env python3
 """The one reader of crates.txt, which says on which crates each crate of the repository stands.
+
+    tools/dev/crates.py [--above | --below] [CRATE ..]
+
+prints crates, a line each, each after those that it stands on: those that are named, or all; with `--above` those too
+that stand on them, and with `--below` those that they stand on. The status is 2 where a crate is not in crates.txt.
 
 A line is `NAME: CRATE ..`. Words may stand between the name and the colon, as in `NAME staticlib: CRATE ..`, and what
 follows a `#` is a comment. The crates on which one stands are the repository's own and those of the toolchain.
 """
+import argparse
 import pathlib
-from typing import Dict, List, NamedTuple, Optional
+import sys
+from typing import Dict, List, NamedTuple, Optional, Set
+
+ROOT = pathlib.Path(__file__).resolve().parents[2]
 
 
 class Crate(NamedTuple):
@@ -40,3 +50,47 @@ def lowest_first(crates: Dict[str, Crate], name: str, found: Optional[List[str]]
     if name not in found:
         found.append(name)
     return found
+
+
+def in_order(crates: Dict[str, Crate]) -> List[str]:
+    """All crates, each after those that it stands on."""
+    found: List[str] = []
+    for name in crates:
+        lowest_first(crates, name, found)
+    return found
+
+
+def with_above(crates: Dict[str, Crate], named: Set[str]) -> Set[str]:
+    """Some crates and all that stand on them."""
+    found = set(named)
+    for name in in_order(crates):
+        if found.intersection(crates[name].uses):
+            found.add(name)
+    return found
+
+
+def with_below(crates: Dict[str, Crate], named: Set[str]) -> Set[str]:
+    """Some crates and all of the repository that they stand on."""
+    return {below for name in named for below in lowest_first(crates, name)}
+
+
+def main() -> int:
+    """Prints the crates that are wanted; the status."""
+    parser = argparse.ArgumentParser(description="Crates of crates.txt, each after those that it stands on.")
+    way = parser.add_mutually_exclusive_group()
+    way.add_argument("--above", action="store_true", help="also those that stand on them")
+    way.add_argument("--below", action="store_true", help="also those that they stand on")
+    parser.add_argument("crates", metavar="CRATE", nargs="*", help="all where none is named")
+    args = parser.parse_args()
+    crates = listed(ROOT)
+    for name in args.crates:
+        if name not in crates:
+            parser.error(f"no crate {name} in crates.txt")
+    named = set(args.crates or crates)
+    wanted = with_above(crates, named) if args.above else with_below(crates, named) if args.below else named
+    print("".join(f"{name}\n" for name in in_order(crates) if name in wanted), end="")
+    return 0
+
+
+if __name__ == "__main__":
+    sys.exit(main())

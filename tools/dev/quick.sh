@@ -50,23 +50,8 @@ command -v rt >/dev/null 2>&1 || usage "the command rt of the toolchain is not o
 
 # The crates that are named, and with `above` those that stand on them, each after those that it stands on.
 in_order() { # the crates, and `above` or nothing
-    awk -F: -v named="$1" -v above="$2" '
-        { gsub(/#.*/, ""); sub(/ .*/, "", $1); if ($1 != "") { below[$1] = $2; names[++count] = $1 } }
-        function stands(name,  parts, n, i) {
-            if (name in known) return known[name]
-            known[name] = index(" " named " ", " " name " ") > 0
-            n = split(below[name], parts, " ")
-            for (i = 1; i <= n; i++) if (parts[i] in below && stands(parts[i]) && above != "") known[name] = 1
-            return known[name]
-        }
-        function tell(name,  parts, n, i) {
-            if (name in told) return
-            told[name] = 1
-            n = split(below[name], parts, " ")
-            for (i = 1; i <= n; i++) if (parts[i] in below) tell(parts[i])
-            if (stands(name)) print name
-        }
-        END { for (i = 1; i <= count; i++) tell(names[i]) }' "$root/crates.txt"
+    # shellcheck disable=SC2086
+    [ -z "$1" ] || "$root/tools/dev/crates.py" ${2:+--above} $1
 }
 
 passed=0

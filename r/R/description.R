@@ -1,0 +1,98 @@
+# The description of a case by the Data Package standard: its keys, its resources, and what it says of the case.
+
+# The keys of a description that are ours, below `clearing`; others are told.
+OUR_KEYS <- c("asOf", "test", "currency", "unit", "limits", "keep", "import", "from")
+INNER_KEYS <- list(
+  import = c("command", "read", "leftOut", "summed", "rounded", "converted"),
+  from = c("title", "hashes", "changes")
+)
+
+# What stands under our key is of its form; fails with the key.
+check_described <- function(ours) {
+  if (!is.null(ours) && !is.list(ours)) fail("clearing: no object of JSON")
+  must <- function(key, is_well, what) {
+    value <- ours[[key]]
+    if (!is.null(value) && !isTRUE(is_well(value))) fail(sprintf("clearing.%s: %s", key, what))
+  }
+  is_text <- function(value, pattern) is.character(value) && length(value) == 1 && grepl(pattern, value)
+  is_date <- function(value) {
+    is_text(value, "^[0-9]{4}-[0-9]{2}-[0-9]{2}$") && !is.na(as.Date(value, optional = TRUE))
+  }
+  is_unit <- function(value) is_text(value, "^[0-9]{1,40}([.][0-9]{1,40})?$") && grepl("[1-9]", value)
+  must("asOf", is_date, "no date YYYY-MM-DD")
+  must("test", function(value) is_text(value, "^(liquidity|solvency)$"), "neither liquidity nor solvency")
+  must("currency", function(value) is_text(value, "^[A-Z]{3}$"), "not three capital letters")
+  must("unit", is_unit, "not an exact decimal above 0, as a text")
+  must("limits", function(value) is_text(value, "^(standard|wide)$"), "neither standard nor wide")
+  is_keep <- function(value) is.numeric(value) && value >= 0 && value <= 1000 && value == floor(value)
+  must("keep", is_keep, "not from 0 to 1000")
+}
+
+# The columns of each file as the standard describes them.
+fields_of <- function(what, network) {
+  field <- function(name, type) list(name = name, type = type)
+  names <- switch(what,
+    banks = strsplit(network$banks_file[1], ",", fixed = TRUE)[[1]],
+    debts = c("debtor", "creditor", "class", "claim"),
+    labels = LABEL_COLUMNS
+  )
+  lapply(names, function(name) field(name,
+                                     if (name %in% c("cash", "outside", "class", "claim")) "integer" else "string"))
+}
+
+# The media types of files by their endings.
+MEDIA <- c(
+  csv = "text/csv",
+  toml = "application/toml",
+  json = "application/json",
+  ods = "application/vnd.oasis.opendocument.spreadsheet",
+  xlsx = "application/vnd.openxmlformats-officedocument.spreadsheetml.sheet"
+)
+
+# A file of a case as a resource: one of CASE_FILES by what it is, or the copy of a sheet by its path in the folder.
+resource_of <- function(what, path, file, network, before) {
+  ending <- sub("^.*[.]", "", basename(path))
+  made <- drop_null(list(
+    name = if (is.null(what)) gsub("[[:space:]/]+", "-", path) else what,
+    path = path,
+    format = ending,
+    mediatype = if (ending %in% names(MEDIA)) MEDIA[[ending]],
+    encoding = if (ending %in% c("csv", "toml", "json")) "utf-8",
+    bytes = file.size(file),
+    hash = hash_of(file)
+  ))
+  if (!is.null(what) && ending == "csv") made$schema <- list(fields = fields_of(what, network))
+  old <- Filter(function(one) identical(one$path, path), before)
+  if (length(old)) made <- utils::modifyList(old[[1]], list(bytes = made$bytes, hash = made$hash))
+  drop_null(made)
+}
+
+# The description of a case whose files stand in a folder.
+document_of <- function(case, folder) {
+  present <- CASE_FILES[file.exists(file.path(folder, CASE_FILES))]
+  before <- case$document$resources
+  described <- function(what, path) resource_of(what, path, file.path(folder, path), case$network, before)
+  sheets <- if (length(case$sheets)) paste0(SHEETS, "/", names(case$sheets)) else character(0)
+  resources <- unname(c(lapply(names(present), function(what) described(what, present[[what]])),
+                        lapply(sheets, function(path) described(NULL, path))))
+  name <- gsub("[^a-z0-9]+", "-", tolower(iconv(case$title, "UTF-8", "ASCII//TRANSLIT", sub = "-")))
+  made <- list(
+    "$schema" = "https://datapackage.org/profiles/2.0/datapackage.json",
+    name = or(case$document$name, gsub("^-+|-+$", "", name)),
+    title = case$title,
+    description = case$description,
+    created = or(case$document$created, format(Sys.time(), "%Y-%m-%dT%H:%M:%SZ", tz = "UTC")),
+    version = case$document$version,
+    contributors = case$document$contributors,
+    sources = case$document$sources,
+    resources = resources
+  )
+  if (!nzchar(or(made$name, ""))) made$name <- "case"
+  made <- Filter(function(value) !is.null(value) && !identical(value, ""), made)
+  ours <- list(asOf = case$as_of, test = case$test, currency = case$currency, unit = case$unit,
+               limits = case$limits, keep = case$keep)
+  kept <- case$document$clearing[setdiff(names(case$document$clearing), names(ours))]
+  others <- case$document[setdiff(names(case$document), c(names(made), "clearing", "title", "description"))]
+  check_described(ours)
+  c(made, list(clearing = c(drop_null(ours), kept)), others)
+}
