@@ -14,12 +14,14 @@ loop-turn-init c = record {
 pub settle_alone-requires : goal.settle_alone-requires
 settle_alone-requires c =
     let before = c.loop-turn.invariant in
-    record { offices = record {
-      other = before.other;
-      banks = c.give_cash.ensures.banks ∙ ap (λ n. map (of_cash 0) n.banks) c.in_ok-net.ensures ∙ before.banks;
-      debts = c.give_cash.ensures.debts ∙ ap (λ n. n.debts) c.in_ok-net.ensures ∙ before.debts;
-      offices = before.offices;
-    } }
+    record {
+      offices = record {
+        other = before.other;
+        banks = c.give_cash.ensures.banks ∙ ap (λ n. map (of_cash 0) n.banks) c.in_ok-net.ensures ∙ before.banks;
+        debts = c.give_cash.ensures.debts ∙ ap (λ n. n.debts) c.in_ok-net.ensures ∙ before.debts;
+        offices = before.offices;
+      };
+    }
 
 pub loop-turn-preserved : goal.loop-turn-preserved
 loop-turn-preserved c = record {
