@@ -10,6 +10,8 @@
 #[cfg(test)]
 mod edge;
 #[cfg(test)]
+mod errors;
+#[cfg(test)]
 mod host_shelf;
 #[cfg(test)]
 mod host_streams;
