@@ -1,3 +1,5 @@
+//! Which bells are up: `calls_two_workers` on many sets of bells, and `is_up` before and after each
+//! bell is taken.
 ghost use Rattle.pay_words.specs.Views.{HoldsAll, IsAt};
 ghost use Rattle.std.specs.Prelude.{◌≡◌, ◌<◌, ◌≤◌, length};
 

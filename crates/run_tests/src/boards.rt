@@ -1,9 +1,11 @@
+//! What the other tests share: boards on which nothing is paid, the state of a run before its first
+//! round, runs that are driven on such boards, and the first raises of a journal.
 ghost use Rattle.bank_worker.specs.BankSets.{is_in};
 ghost use Rattle.clr_net.specs.declared.TheConstants.{MAX_BANKS};
 ghost use Rattle.pay_words.specs.Traces.{start_of};
 ghost use Rattle.pay_words.specs.Views.{HoldsAll, IsAt, opening};
 ghost use Rattle.settle.specs.Drives.{IsPlan};
-ghost use Rattle.settle.specs.Offices.{AreOffices};
+ghost use Rattle.settle.specs.Offices.{AreAllOffices};
 ghost use Rattle.pay_words.specs.Words.{unpaid as unpaid_word};
 ghost use Rattle.std.specs.Prelude.{◌≡◌, ◌<◌, ◌≤◌, ℕ, IfOk, [], length, replicate, true};
 
@@ -41,7 +43,7 @@ fn unpaid(alloc: Global, debts: usize) -> Result<Vec<Payment>, Mem>
 
 // The state of a run on such a board before its first round.
 pub(crate) fn new_state<G: Gate>(run: &Run<'_, G>) -> Result<RunState, Mem>
-    ensures offices { IfOk result (λ s. AreOffices run.now.net.now run.now.engine.now.plan.workers
+    ensures offices { IfOk result (λ s. AreAllOffices run.now.net.now
         run.now.engine.now.plan.workers s.offices.items) }
     ensures called { IfOk result (λ s. (b : ℕ) → b < MAX_BANKS → is_in s.called b ≡ true) }
 {

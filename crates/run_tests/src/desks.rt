@@ -1,3 +1,4 @@
+//! A bank's desk: what it pays by each rule, from its cash and receipts, and which debts it knows.
 use bank_desk::Desk;
 use clr_net::{BankId, DebtId, MAX_OUTSIDE, MAX_OWED, Mem, Network, RuleKind};
 use net_samples::{add_classed, add_ruled};

@@ -1,3 +1,4 @@
+//! Gates, by which tests count the visits of a run, let workers meet, or hold them up.
 use clr_edge::Gate;
 use clr_net::Mem;
 use std::alloc::Global;

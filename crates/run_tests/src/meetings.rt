@@ -1,3 +1,4 @@
+//! Whether workers are at work at once, or one after another: those that are, meet at a gate.
 ghost use Rattle.settle.specs.Drives.{IsPlan};
 
 use crate::boards::driven_by_hand;
@@ -15,7 +16,7 @@ use std::time::Clock;
 
 // How a run is begun.
 #[derive(Clone, Copy)]
-enum Run {
+enum Begun {
     Settled,
     // Without threads of its own.
     Alone,
@@ -23,30 +24,56 @@ enum Run {
     Driven,
 }
 
-// A run, its network, its workers and sweeps, the round in which those workers that have a visit
-// meet, how many each of them waits for, and how many do not wait in vain.
-type Case = (Run, Sample, [u32; 2], u64, u64, u64);
+// A run whose workers meet.
+#[derive(Clone, Copy)]
+struct Case {
+    begun: Begun,
+    sample: Sample,
+    workers: u32,
+    sweeps: u32,
+    // The round in which those workers that have a visit meet.
+    round: u64,
+    // How many each of them waits for.
+    wanted: u64,
+    // How many do not wait in vain.
+    met: u64,
+}
+
+// A case in one line: the fields in their order, where workers and sweeps stand together.
+type Row = (Begun, Sample, [u32; 2], u64, u64, u64);
+
+fn case_of((begun, sample, [workers, sweeps], round, wanted, met): Row) -> Case {
+    Case {
+        begun,
+        sample,
+        workers,
+        sweeps,
+        round,
+        wanted,
+        met,
+    }
+}
 
 fn run_by<R: Threads + Sync, G: Gate + Sync>(
     rt: &R,
     alloc: Global,
     net: &Network,
-    run: Run,
+    begun: Begun,
     plan: Plan,
     gate: &G,
 ) -> Result<(), Mem>
     requires { IsPlan plan }
 {
-    match run {
-        Run::Settled => {
+    match begun {
+        Begun::Settled => {
             settle(rt, alloc, net, plan, gate)?;
         }
-        Run::Alone => {
+        Begun::Alone => {
             let mut offices = offices_of(alloc, net, plan.workers)?;
             let engine = Engine { alloc, plan, gate };
             settle_alone(&engine, net.copy(alloc)?, &mut offices)?;
         }
-        Run::Driven => {
+        Begun::Driven => {
             driven_by_hand(rt, alloc, net, plan, gate)?;
         }
     }
@@ -57,16 +84,16 @@ fn run_by<R: Threads + Sync, G: Gate + Sync>(
 fn met_in<R: Threads + Clock + Sync>(
     rt: &R,
     alloc: Global,
-    (run, sample, [workers, sweeps], round, wanted, _): Case,
+    case: Case,
     millis: u32,
 ) -> Result<u64, Mem> {
-    let net = net_of(alloc, sample)?;
-    let gate = new_meeting(rt, alloc, wanted, round, millis)?;
+    let net = net_of(alloc, case.sample)?;
+    let gate = new_meeting(rt, alloc, case.wanted, case.round, millis)?;
     let plan = Plan {
-        workers: workers.clamp(1, 64),
-        sweeps: sweeps.clamp(1, 1000),
+        workers: case.workers.clamp(1, 64),
+        sweeps: case.sweeps.clamp(1, 1000),
     };
-    run_by(rt, alloc, &net, run, plan, &gate)?;
+    run_by(rt, alloc, &net, case.begun, plan, &gate)?;
     Ok(gate.met.load(Ordering::SeqCst))
 }
 
@@ -74,50 +101,51 @@ fn met_in<R: Threads + Clock + Sync>(
 fn all_meet<R: Threads + Clock + Sync + Abort>(
     rt: &R,
     alloc: Global,
-    cases: &[Case],
+    rows: &[Row],
     millis: u32,
 ) -> Result<(), Fail> {
-    for (place, case) in cases.iter().enumerate() {
-        let met = met_in(rt, alloc, *case, millis)?;
-        assert_eq!(rt; met, case.5, "{place}");
+    for (place, row) in rows.iter().enumerate() {
+        let case = case_of(*row);
+        let met = met_in(rt, alloc, case, millis)?;
+        assert_eq!(rt; met, case.met, "{place}");
     }
     Ok(())
 }
 
 // On networks of two debts, and of three debts a bank.
-const AT_FIRST: [Case; 32] = [
-    (Run::Settled, Sample::Chain, [2, 1], 0, 2, 2),
-    (Run::Settled, Sample::TwoPairs, [2, 1], 0, 2, 2),
-    (Run::Settled, Sample::TwoPairs, [3, 1], 0, 3, 3),
-    (Run::Settled, Sample::TwoPairs, [4, 1], 0, 4, 4),
-    (Run::Settled, Sample::TwoPairs, [5, 1], 0, 5, 5),
-    (Run::Settled, Sample::TwoPairs, [8, 1], 0, 8, 8),
-    (Run::Settled, Sample::Woven(30), [2, 1], 0, 2, 2),
-    (Run::Settled, Sample::Woven(30), [3, 1], 0, 3, 3),
-    (Run::Settled, Sample::Woven(30), [8, 1], 0, 8, 8),
-    (Run::Settled, Sample::Woven(30), [2, 3], 0, 2, 2),
-    (Run::Settled, Sample::Woven(30), [3, 3], 0, 3, 3),
-    (Run::Settled, Sample::Woven(30), [8, 3], 0, 8, 8),
-    (Run::Settled, Sample::Woven(31), [2, 1], 0, 2, 2),
-    (Run::Settled, Sample::Woven(60), [3, 1], 0, 3, 3),
-    (Run::Settled, Sample::Woven(100), [8, 3], 0, 8, 8),
-    (Run::Settled, Sample::Woven(200), [3, 3], 0, 3, 3),
-    (Run::Settled, Sample::Woven(400), [64, 1], 0, 64, 64),
-    (Run::Settled, Sample::Woven(700), [2, 1], 0, 2, 2),
-    (Run::Settled, Sample::Woven(700), [3, 1], 0, 3, 3),
-    (Run::Settled, Sample::Woven(700), [8, 1], 0, 8, 8),
-    (Run::Settled, Sample::Woven(700), [2, 3], 0, 2, 2),
-    (Run::Settled, Sample::Woven(700), [3, 3], 0, 3, 3),
-    (Run::Settled, Sample::Woven(700), [8, 3], 0, 8, 8),
-    (Run::Settled, Sample::Woven(700), [64, 1], 0, 64, 64),
-    (Run::Settled, Sample::Woven(1000), [2, 1], 0, 2, 2),
-    (Run::Settled, Sample::Woven(1000), [64, 3], 0, 64, 64),
-    (Run::Driven, Sample::Chain, [2, 1], 0, 2, 2),
-    (Run::Driven, Sample::TwoPairs, [3, 3], 0, 3, 3),
-    (Run::Driven, Sample::Woven(30), [2, 1], 0, 2, 2),
-    (Run::Driven, Sample::Woven(30), [8, 3], 0, 8, 8),
-    (Run::Driven, Sample::Woven(700), [64, 1], 0, 64, 64),
-    (Run::Driven, Sample::Woven(1000), [64, 1], 0, 64, 64),
+const AT_FIRST: [Row; 32] = [
+    (Begun::Settled, Sample::Chain, [2, 1], 0, 2, 2),
+    (Begun::Settled, Sample::TwoPairs, [2, 1], 0, 2, 2),
+    (Begun::Settled, Sample::TwoPairs, [3, 1], 0, 3, 3),
+    (Begun::Settled, Sample::TwoPairs, [4, 1], 0, 4, 4),
+    (Begun::Settled, Sample::TwoPairs, [5, 1], 0, 5, 5),
+    (Begun::Settled, Sample::TwoPairs, [8, 1], 0, 8, 8),
+    (Begun::Settled, Sample::Woven(30), [2, 1], 0, 2, 2),
+    (Begun::Settled, Sample::Woven(30), [3, 1], 0, 3, 3),
+    (Begun::Settled, Sample::Woven(30), [8, 1], 0, 8, 8),
+    (Begun::Settled, Sample::Woven(30), [2, 3], 0, 2, 2),
+    (Begun::Settled, Sample::Woven(30), [3, 3], 0, 3, 3),
+    (Begun::Settled, Sample::Woven(30), [8, 3], 0, 8, 8),
+    (Begun::Settled, Sample::Woven(31), [2, 1], 0, 2, 2),
+    (Begun::Settled, Sample::Woven(60), [3, 1], 0, 3, 3),
+    (Begun::Settled, Sample::Woven(100), [8, 3], 0, 8, 8),
+    (Begun::Settled, Sample::Woven(200), [3, 3], 0, 3, 3),
+    (Begun::Settled, Sample::Woven(400), [64, 1], 0, 64, 64),
+    (Begun::Settled, Sample::Woven(700), [2, 1], 0, 2, 2),
+    (Begun::Settled, Sample::Woven(700), [3, 1], 0, 3, 3),
+    (Begun::Settled, Sample::Woven(700), [8, 1], 0, 8, 8),
+    (Begun::Settled, Sample::Woven(700), [2, 3], 0, 2, 2),
+    (Begun::Settled, Sample::Woven(700), [3, 3], 0, 3, 3),
+    (Begun::Settled, Sample::Woven(700), [8, 3], 0, 8, 8),
+    (Begun::Settled, Sample::Woven(700), [64, 1], 0, 64, 64),
+    (Begun::Settled, Sample::Woven(1000), [2, 1], 0, 2, 2),
+    (Begun::Settled, Sample::Woven(1000), [64, 3], 0, 64, 64),
+    (Begun::Driven, Sample::Chain, [2, 1], 0, 2, 2),
+    (Begun::Driven, Sample::TwoPairs, [3, 3], 0, 3, 3),
+    (Begun::Driven, Sample::Woven(30), [2, 1], 0, 2, 2),
+    (Begun::Driven, Sample::Woven(30), [8, 3], 0, 8, 8),
+    (Begun::Driven, Sample::Woven(700), [64, 1], 0, 64, 64),
+    (Begun::Driven, Sample::Woven(1000), [64, 1], 0, 64, 64),
 ];
 
 #[test]
@@ -129,7 +157,7 @@ fn all_workers_work_at_once(rt: HostRuntime) -> Result<(), Fail> {
 fn each_number_of_workers_works_at_once(rt: HostRuntime) -> Result<(), Fail> {
     for workers in 2..65_u32 {
         let all = u64::from(workers);
-        let case = (Run::Settled, Sample::TwoPairs, [workers, 1], 0, all, all);
+        let case = case_of((Begun::Settled, Sample::TwoPairs, [workers, 1], 0, all, all));
         let met = met_in(&rt, rt.alloc(), case, LONG)?;
         assert_eq!(rt; met, all, "{workers}");
     }
@@ -138,24 +166,24 @@ fn each_number_of_workers_works_at_once(rt: HostRuntime) -> Result<(), Fail> {
 
 // Of the two pairs, two of two or four workers have a visit in the second round. Down the stairs,
 // whose steps are of one worker each, each of all workers has one in each of the first rounds.
-const LATER: [Case; 17] = [
-    (Run::Settled, Sample::TwoPairs, [2, 1], 1, 2, 2),
-    (Run::Settled, Sample::TwoPairs, [4, 1], 1, 2, 2),
-    (Run::Settled, Sample::Stairs(700, 2), [2, 1], 1, 2, 2),
-    (Run::Settled, Sample::Stairs(700, 3), [3, 1], 1, 3, 3),
-    (Run::Settled, Sample::Stairs(700, 8), [8, 1], 1, 8, 8),
-    (Run::Settled, Sample::Stairs(700, 2), [2, 3], 1, 2, 2),
-    (Run::Settled, Sample::Stairs(700, 3), [3, 3], 1, 3, 3),
-    (Run::Settled, Sample::Stairs(700, 8), [8, 3], 1, 8, 8),
-    (Run::Settled, Sample::Stairs(700, 64), [64, 1], 1, 64, 64),
-    (Run::Settled, Sample::Stairs(700, 2), [2, 1], 2, 2, 2),
-    (Run::Settled, Sample::Stairs(700, 3), [3, 3], 2, 3, 3),
-    (Run::Settled, Sample::Stairs(700, 8), [8, 1], 2, 8, 8),
-    (Run::Settled, Sample::Stairs(700, 64), [64, 1], 2, 64, 64),
-    (Run::Driven, Sample::TwoPairs, [2, 1], 1, 2, 2),
-    (Run::Driven, Sample::Stairs(700, 3), [3, 1], 1, 3, 3),
-    (Run::Driven, Sample::Stairs(700, 3), [3, 1], 2, 3, 3),
-    (Run::Driven, Sample::Stairs(700, 64), [64, 1], 2, 64, 64),
+const LATER: [Row; 17] = [
+    (Begun::Settled, Sample::TwoPairs, [2, 1], 1, 2, 2),
+    (Begun::Settled, Sample::TwoPairs, [4, 1], 1, 2, 2),
+    (Begun::Settled, Sample::Stairs(700, 2), [2, 1], 1, 2, 2),
+    (Begun::Settled, Sample::Stairs(700, 3), [3, 1], 1, 3, 3),
+    (Begun::Settled, Sample::Stairs(700, 8), [8, 1], 1, 8, 8),
+    (Begun::Settled, Sample::Stairs(700, 2), [2, 3], 1, 2, 2),
+    (Begun::Settled, Sample::Stairs(700, 3), [3, 3], 1, 3, 3),
+    (Begun::Settled, Sample::Stairs(700, 8), [8, 3], 1, 8, 8),
+    (Begun::Settled, Sample::Stairs(700, 64), [64, 1], 1, 64, 64),
+    (Begun::Settled, Sample::Stairs(700, 2), [2, 1], 2, 2, 2),
+    (Begun::Settled, Sample::Stairs(700, 3), [3, 3], 2, 3, 3),
+    (Begun::Settled, Sample::Stairs(700, 8), [8, 1], 2, 8, 8),
+    (Begun::Settled, Sample::Stairs(700, 64), [64, 1], 2, 64, 64),
+    (Begun::Driven, Sample::TwoPairs, [2, 1], 1, 2, 2),
+    (Begun::Driven, Sample::Stairs(700, 3), [3, 1], 1, 3, 3),
+    (Begun::Driven, Sample::Stairs(700, 3), [3, 1], 2, 3, 3),
+    (Begun::Driven, Sample::Stairs(700, 64), [64, 1], 2, 64, 64),
 ];
 
 #[test]
@@ -164,13 +192,13 @@ fn workers_work_at_once_in_a_later_round_too(rt: HostRuntime) -> Result<(), Fail
 }
 
 // The first worker waits in vain for a second one, and the others find it there.
-const ALONE: [Case; 6] = [
-    (Run::Alone, Sample::TwoPairs, [2, 1], 0, 2, 1),
-    (Run::Alone, Sample::TwoPairs, [3, 1], 0, 2, 2),
-    (Run::Alone, Sample::TwoPairs, [8, 1], 0, 2, 7),
-    (Run::Alone, Sample::TwoPairs, [4, 1], 1, 2, 1),
-    (Run::Alone, Sample::Woven(700), [64, 1], 0, 2, 63),
-    (Run::Alone, Sample::Stairs(700, 4), [4, 1], 2, 2, 3),
+const ALONE: [Row; 6] = [
+    (Begun::Alone, Sample::TwoPairs, [2, 1], 0, 2, 1),
+    (Begun::Alone, Sample::TwoPairs, [3, 1], 0, 2, 2),
+    (Begun::Alone, Sample::TwoPairs, [8, 1], 0, 2, 7),
+    (Begun::Alone, Sample::TwoPairs, [4, 1], 1, 2, 1),
+    (Begun::Alone, Sample::Woven(700), [64, 1], 0, 2, 63),
+    (Begun::Alone, Sample::Stairs(700, 4), [4, 1], 2, 2, 3),
 ];
 
 #[test]
@@ -180,11 +208,11 @@ fn alone_no_worker_works_beside_another(rt: HostRuntime) -> Result<(), Fail> {
 
 // Down these stairs a round has too few visits for threads to be worth while, and all of them
 // together have enough.
-const FEW: [Case; 4] = [
-    (Run::Settled, Sample::Stairs(400, 2), [2, 1], 1, 2, 1),
-    (Run::Settled, Sample::Stairs(400, 2), [2, 1], 2, 2, 1),
-    (Run::Settled, Sample::Stairs(400, 4), [4, 1], 5, 2, 3),
-    (Run::Driven, Sample::Stairs(400, 2), [2, 1], 2, 2, 1),
+const FEW: [Row; 4] = [
+    (Begun::Settled, Sample::Stairs(400, 2), [2, 1], 1, 2, 1),
+    (Begun::Settled, Sample::Stairs(400, 2), [2, 1], 2, 2, 1),
+    (Begun::Settled, Sample::Stairs(400, 4), [4, 1], 5, 2, 3),
+    (Begun::Driven, Sample::Stairs(400, 2), [2, 1], 2, 2, 1),
 ];
 
 #[test]

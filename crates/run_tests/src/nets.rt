@@ -1,3 +1,4 @@
+//! The networks on which runs are tried, beside those of `net_samples`.
 ghost use Rattle.std.specs.Prelude.{◌<◌, ◌≤◌};
 
 use clr_net::{Mem, Network};

@@ -1,3 +1,4 @@
+//! Runs without threads, one after another at the same offices, on networks of other cash.
 ghost use Rattle.clr_net.specs.Net.{of_cash};
 ghost use Rattle.clr_net.specs.declared.TheConstants.{MAX_BANKS};
 ghost use Rattle.std.specs.Prelude.{◌≡◌, ◌≤◌, map};

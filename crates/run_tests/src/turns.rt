@@ -1,3 +1,4 @@
+//! A run without threads in which each worker visits a bank that the one before it has rung.
 use crate::nets::wide_ring;
 use clr_edge::OpenGate;
 use clr_net::Mem;

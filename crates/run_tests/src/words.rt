@@ -1,3 +1,5 @@
+//! The words of a board: what seats see and raise, in one thread and in two, what bells tell, and
+//! what stands when the board is closed or sealed.
 ghost use Rattle.clr_net.specs.Net.{creditor_of};
 ghost use Rattle.clr_net.specs.Samples.{chain as chain_net, ring as ring_net};
 ghost use Rattle.pay_words.specs.Views.{HoldsAll, HoldsAllOf, IsAt, MayRaise, OwesNoRing, handed};

@@ -1,10 +1,11 @@
+//! One worker: its visits and rounds on a board, its bells, want of memory, and its set of banks.
 ghost use Rattle.bank_worker.specs.Visits.{IsAllCalm, IsSameWorker, MayRest};
 ghost use Rattle.clr_net.specs.Samples.{chain as chain_net, ring as ring_net};
 ghost use Rattle.clr_net.specs.declared.TheConstants.{MAX_BANKS};
 ghost use Rattle.pay_words.specs.Traces.{start_of};
 ghost use Rattle.pay_words.specs.Views.{IsAt, OwesNoRing, opening};
 ghost use Rattle.settle.specs.Between.{IsBetween};
-ghost use Rattle.std.specs.Prelude.{◌≡◌, ◌+◌, ◌*◌, ◌<◌, ◌≤◌, [], OnOk, length};
+ghost use Rattle.std.specs.Prelude.{◌≡◌, ◌+◌, ◌*◌, ◌<◌, ◌≤◌, [], IfOk, OnOk, length};
 
 use crate::boards::{NONE, first_raises, new_board, new_state, take_bells};
 use crate::gates::FirstVisits;
@@ -141,16 +142,35 @@ fn a_bell_is_up_where_a_payment_is_new(rt: HostRuntime) -> Result<(), Fail> {
     Ok(())
 }
 
-// The desks of the third worker of a new board, the units of its round, and its visits.
+// The third of three workers on a new board of the ring, which has two banks.
+fn third_worker(
+    alloc: Global,
+    net: &Network,
+    board: &Board,
+    master: &mut PaySeat,
+) -> Result<Worker, Mem>
+    requires net { (net.now ≡ ring_net) × (board.now.net ≡ ring_net) }
+    requires workers { board.now.table.workers ≡ 3 }
+    requires master { (master.old.table ≡ board.now.table)
+        × (master.old.shows ≡ opening ring_net (start_of ring_net [])) }
+    ensures seat { IfOk result (λ w. IsAt board.now w.seat) }
+    ensures visits { IfOk result (λ w. w.visits ≡ 0) }
+    ensures idle { IfOk result (λ w. OwesNoRing w.seat.shows × IsAllCalm w.seat.shows
+        × MayRest w.seat.shows w.desks) }
+{
+    let seat = board.hand(alloc, master, 2)?;
+    match Worker::make(alloc, net, seat, 2, 3) {
+        Ok(worker) => Ok(worker),
+        Err(SeatBack { seat: _ }) => Err(Mem),
+    }
+}
+
+// The desks of that worker, the units of its round, and its visits.
 fn round_of_third(alloc: Global, net: &Network) -> Result<(usize, Option<u64>, u64), Mem>
     requires { net.now ≡ ring_net }
 {
     let (board, mut master) = new_board(alloc, net, 3)?;
-    let seat = board.hand(alloc, &mut master, 2)?;
-    let mut worker = match Worker::make(alloc, net, seat, 2, 3) {
-        Ok(worker) => worker,
-        Err(SeatBack { seat: _ }) => return Err(Mem),
-    };
+    let mut worker = third_worker(alloc, net, &board, &mut master)?;
     let units = units_of(worker.round(&board, 7, &OpenGate));
     Ok((worker.desks(), units, worker.visits()))
 }

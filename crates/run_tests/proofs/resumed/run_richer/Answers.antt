@@ -4,7 +4,7 @@ use Rattle.clr_net.specs.Samples.{chain}
 use Rattle.pay_words.specs.Traces.{start_of}
 use Rattle.rescue.proofs.MoreCash.{belongs_added}
 use Rattle.settle.specs.Runs.{CanGoOn}
-use Rattle.run_tests.proofs.runs.run_richer.Goals as goal
+use Rattle.run_tests.proofs.resumed.run_richer.Goals as goal
 
 pub run_from-requires-clause-past : goal.run_from-requires-clause-past
 run_from-requires-clause-past g c κs within =

@@ -1,7 +1,7 @@
 use Rattle.std.proofs.Common.{◌<◌, All, length, sym, subst}
 use Rattle.clear_core.specs.declared.event.Raise.{Raise}
 use Rattle.clear_core.proofs.Lawful.{stands_in_range}
-use Rattle.run_tests.proofs.runs.is_cleared_by.Goals as goal
+use Rattle.run_tests.proofs.weaves.is_cleared_by.Goals as goal
 
 pub replays_to-requires : goal.replays_to-requires
 replays_to-requires g c =

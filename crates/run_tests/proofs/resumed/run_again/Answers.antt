@@ -3,7 +3,7 @@ use Rattle.clr_net.specs.Net.{Net}
 use Rattle.clr_net.specs.Samples.{chain}
 use Rattle.settle.specs.Runs.{CanGoOn}
 use Rattle.pay_words.proofs.Pasts.{belongs_at_first}
-use Rattle.run_tests.proofs.runs.run_again.Goals as goal
+use Rattle.run_tests.proofs.resumed.run_again.Goals as goal
 
 -- the first run goes on from nothing
 pub settle_owned-requires-clause-past : goal.settle_owned-requires-clause-past
