@@ -60,6 +60,12 @@ console.log(JSON.stringify(found));
 """
 
 
+def account_of(base, cleared, bank, made=accounts):
+    """The account of a bank in a state, by a module of accounts."""
+    owes, owed = made.debts_by(base, cleared)
+    return made.account_by(base, cleared, bank, owes, owed.get(bank, []))
+
+
 class Asked:
     """A network drawn at random, a state of it, and what the program and the model say of that."""
 
@@ -125,7 +131,7 @@ class Accounts(unittest.TestCase):
         lacking = with_lines = 0
         for number, asked in enumerate(self.asked):
             for bank in range(len(asked.net.banks)):
-                account = accounts.account_of(asked.base, asked.found, bank)
+                account = account_of(asked.base, asked.found, bank)
                 self.assertEqual(asked.faults(bank, account), [], (number, asked.net.banks[bank].name))
                 health = model.cost_standing(asked.left, asked.keep, asked.paid, bank)[1]
                 self.assertEqual(account.left < 0, health != "sound", (number, asked.net.banks[bank].name))
@@ -142,7 +148,7 @@ class Accounts(unittest.TestCase):
             (asked, bank, account)
             for asked in self.asked
             for bank in range(len(asked.net.banks))
-            for account in [accounts.account_of(asked.base, asked.found, bank)]
+            for account in [account_of(asked.base, asked.found, bank)]
             if account.loss
             and account.outside
             and account.lost
@@ -186,16 +192,16 @@ class Accounts(unittest.TestCase):
     def is_told(self, asked, made):
         """Whether the accounts of a network by this module are told to be wrong: by itself, or by the model."""
         found = asked.found
-        if made.account_of.__code__.co_filename == "no test at the end":
+        if made.account_by.__code__.co_filename == "no test at the end":
             # What is taken away there shows where the program's word is another.
             found = found._replace(banks=[bank._replace(equity=bank.equity + 1) for bank in found.banks])
             try:
-                return made.account_of(asked.base, found, 0) is not None
+                return account_of(asked.base, found, 0, made) is not None
             except runner.ToolError:
                 return False
         for bank in range(len(asked.net.banks)):
             try:
-                if asked.faults(bank, made.account_of(asked.base, found, bank)):
+                if asked.faults(bank, account_of(asked.base, found, bank, made)):
                     return True
             except runner.ToolError:
                 return True
@@ -207,7 +213,7 @@ class Accounts(unittest.TestCase):
         pairs = []
         for asked in self.asked:
             for bank in range(len(asked.net.banks)):
-                pairs.append([accounts.account_of(asked.base, found, bank) for found in (asked.found, asked.before)])
+                pairs.append([account_of(asked.base, found, bank) for found in (asked.found, asked.before)])
         given = json.dumps([[account.view() for account in pair] for pair in pairs])
         folder = tempfile.TemporaryDirectory()
         self.addCleanup(folder.cleanup)

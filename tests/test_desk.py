@@ -35,6 +35,14 @@ def standings(task, *words):
 
 
 @unittest.skipIf(REASON, REASON)
+def account_of(base, cleared, bank):
+    """The account of a bank in a state."""
+    from clearing_tools.desk import account
+
+    owes, owed = account.debts_by(base, cleared)
+    return account.account_by(base, cleared, bank, owes, owed.get(bank, []))
+
+
 class Desk(Case):
     def desk(self, files=None, *more, **others):
         return Running(self, files_of(TWELVE) if files is None else files, *more, **others)
@@ -352,7 +360,6 @@ class Numbers(Desk):
     def test_an_account_adds_up_for_each_bank_of_many_networks(self):
         sys.path.insert(0, str(PACKAGES))
         from clearing_client.case import Case as Folder
-        from clearing_tools.desk import account
         from clearing_tools.desk import state as states
         from clearing_tools.desk.runs import Desk as Table
         from clearing_tools.desk.runs import Runs, base_of
@@ -371,7 +378,7 @@ class Numbers(Desk):
             )
             found = desk.cleared(state)
             for at, bank in enumerate(found.banks):
-                one = account.account_of(base, found, at)
+                one = account_of(base, found, at)
                 rest = (
                     one.whole - one.loss - sum(line.claim - line.paid for line in one.unpaid) - one.outside - one.lost
                 )
@@ -415,7 +422,6 @@ class Numbers(Desk):
     def test_an_account_that_does_not_come_to_the_program_s_word_is_told(self):
         sys.path.insert(0, str(PACKAGES))
         from clearing_client.case import Case as Folder
-        from clearing_tools.desk import account
         from clearing_tools.desk import state as states
         from clearing_tools.desk.runs import Desk as Table
         from clearing_tools.desk.runs import Runs, base_of
@@ -426,9 +432,9 @@ class Numbers(Desk):
         base = base_of(runs, *map(str, files_of(TWELVE)[1::2]), None)
         found = Table(runs, base, Folder()).cleared(states.AS_IT_IS)
         wrong = found._replace(banks=[bank._replace(equity=bank.equity + 1) for bank in found.banks])
-        account.account_of(base, found, 3)
+        account_of(base, found, 3)
         with self.assertRaises(ToolError):
-            account.account_of(base, wrong, 3)
+            account_of(base, wrong, 3)
 
     def test_the_debts_of_a_bank_are_those_of_the_program(self):
         desk = self.desk()
