@@ -1,3 +1,4 @@
+"""The completions of the shells: which words they offer, and that no name is executed or altered."""
 import os
 import pty
 import subprocess

@@ -1,3 +1,4 @@
+"""How the tools write files: whole or not at all, with the modes that they had, and nothing over an input."""
 import os
 import subprocess
 import sys

@@ -1,3 +1,4 @@
+"""`clearing-gen-files` writes the network that `gen` makes of the same words."""
 from common import Case
 
 

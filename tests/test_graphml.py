@@ -1,3 +1,4 @@
+"""`clearing-to-graphml` writes a network that other programs read, with payments and states."""
 import subprocess
 import sys
 import xml.etree.ElementTree

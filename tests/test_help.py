@@ -1,3 +1,4 @@
+"""Each tool has a help in one layout, and refuses words that it does not know."""
 from common import ROOT, Case
 
 TOOLS = sorted((ROOT / "bin").iterdir())

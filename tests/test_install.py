@@ -1,3 +1,4 @@
+"""`tools/install.sh` puts the program, the tools, the pages and the completions in place."""
 import os
 import pathlib
 import re

@@ -1,3 +1,4 @@
+"""`clearing-lint` judges files as the program does, and tells every fault with its row."""
 import concurrent.futures
 import random
 import sys

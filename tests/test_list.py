@@ -1,3 +1,4 @@
+"""`clearing-from-list` makes the two files of a list of debts, and says what it left out."""
 from common import ROOT, Case
 
 TABLE = "bank,cash,outside,rule\nA,3,0,order\nB,4,1,equal\nC,5,0,webster\n"

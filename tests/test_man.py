@@ -1,3 +1,4 @@
+"""The pages of the manual: one for each tool, with the words of its help."""
 import os
 import re
 import subprocess

@@ -1,3 +1,4 @@
+"""`clearing-many` runs many jobs, each once, as many at a time as there are processors."""
 import hashlib
 import json
 import os

@@ -1,3 +1,4 @@
+"""`clearing-from-matrix` makes the two files of a matrix of debts, whichever way it lies."""
 import random
 from fractions import Fraction
 

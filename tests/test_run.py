@@ -1,3 +1,4 @@
+"""The runner of the tests itself: what it counts as passed, failed and skipped."""
 import ast
 import os
 import subprocess

@@ -1,3 +1,4 @@
+"""`clearing-from-totals` makes debts of what each bank owes and is owed in all."""
 import contextlib
 import itertools
 import os

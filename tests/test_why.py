@@ -1,3 +1,4 @@
+"""`clearing-why` judges a command line as the program does, and says what is wrong with it."""
 import concurrent.futures
 import os
 import random
