@@ -4,7 +4,8 @@ import random
 import sys
 import unittest
 
-from common import ROOT, Case, clearing
+from common import ROOT, clearing
+from compared import Compared
 
 sys.path.insert(0, str(ROOT / "tests/system"))
 import model  # noqa: E402
@@ -46,26 +47,7 @@ def large_claims():
     return model.Net(banks, debts)
 
 
-class Largest(Case):
-    def write(self, net):
-        self.files = [
-            "--banks",
-            self.file("banks.csv", model.banks_text(net, True)),
-            "--debts",
-            self.file("debts.csv", model.debts_text(net)),
-        ]
-
-    def text(self, task, *more):
-        return self.printed(task, *self.files, *more)
-
-    def same(self, wanted, task, *more, cut=lambda text: text):
-        """Compares long texts, or what is cut from them, without a long message, and goes on."""
-        with self.subTest(task=task, more=[str(word) for word in more]):
-            told = cut(self.text(task, *more))
-            if told != wanted:
-                lines = [pair for pair in zip(told.split("\n"), wanted.split("\n")) if pair[0] != pair[1]]
-                self.fail(f"{task}: {len(told)} bytes in place of {len(wanted)}; first {lines[:1]}")
-
+class Largest(Compared):
     def test_small_claims_beside_the_model(self):
         net = small_claims(random.Random("largest"))
         self.write(net)

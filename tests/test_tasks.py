@@ -9,6 +9,7 @@ from pathlib import Path
 from typing import Any
 
 from common import CHAIN, ROOT, TWELVE, Case, clearing, files_of
+from compared import Compared
 
 sys.path.insert(0, str(ROOT / "tests/system"))
 import model  # noqa: E402
@@ -51,23 +52,7 @@ def digest(text: str) -> int:
     return told
 
 
-class BesideTheModel(Case):
-    def write(self, net: Any) -> None:
-        self.files = [
-            "--banks",
-            self.file("banks.csv", model.banks_text(net, True)),
-            "--debts",
-            self.file("debts.csv", model.debts_text(net)),
-        ]
-
-    def same(self, wanted: str, task: str, *more: object) -> None:
-        """Compares long texts without a long message, and goes on."""
-        with self.subTest(task=task, more=[str(word) for word in more]):
-            told = self.printed(task, *self.files, *more)
-            if told != wanted:
-                lines = [pair for pair in zip(told.split("\n"), wanted.split("\n")) if pair[0] != pair[1]]
-                self.fail(f"{task}: {len(told)} bytes in place of {len(wanted)}; first {lines[:1]}")
-
+class BesideTheModel(Compared):
     def many_times(self, net: Any) -> None:
         """The tasks that clear a network once for each bank or cut."""
         low = model.least(net)

@@ -1,0 +1,33 @@
+"""What the tests beside the plain model share: a network is written, and what each task prints of it is compared."""
+import sys
+from typing import Any, Callable
+
+from common import ROOT, Case
+
+sys.path.insert(0, str(ROOT / "tests/system"))
+import model  # noqa: E402
+
+
+class Compared(Case):
+    """A test that writes networks of the model, and compares texts of the program with those of the model."""
+
+    def write(self, net: Any) -> None:
+        """Writes the two files of a network, which the words of each task then name."""
+        self.files = [
+            "--banks",
+            self.file("banks.csv", model.banks_text(net, True)),
+            "--debts",
+            self.file("debts.csv", model.debts_text(net)),
+        ]
+
+    def text(self, task: str, *more: object) -> str:
+        """What a task prints of the network."""
+        return self.printed(task, *self.files, *more)
+
+    def same(self, wanted: str, task: str, *more: object, cut: Callable[[str], str] = lambda text: text) -> None:
+        """Compares long texts, or what is cut from them, without a long message, and goes on."""
+        with self.subTest(task=task, more=[str(word) for word in more]):
+            told = cut(self.text(task, *more))
+            if told != wanted:
+                lines = [pair for pair in zip(told.split("\n"), wanted.split("\n")) if pair[0] != pair[1]]
+                self.fail(f"{task}: {len(told)} bytes in place of {len(wanted)}; first {lines[:1]}")
