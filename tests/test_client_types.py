@@ -17,9 +17,7 @@ SOURCES = sorted((ROOT / "python/src").rglob("*.py"))
 SCRIPTS = sorted([ROOT / "python/build.py", *(ROOT / "bench").rglob("*.py"), *(ROOT / "tools/dev").glob("*.py")])
 TESTS = sorted((ROOT / "tests").rglob("*.py"))
 # Scripts of pages and their tests, and the package for R.
-OTHERS = sorted(
-    [*(ROOT / "python/src").rglob("*.mjs"), *(ROOT / "tests").rglob("*.mjs"), *(ROOT / "r").rglob("*.R")]
-)
+OTHERS = sorted([*(ROOT / "python/src").rglob("*.mjs"), *(ROOT / "tests").rglob("*.mjs"), *(ROOT / "r").rglob("*.R")])
 # What is checked at once, seen from python/: two of the scripts are called build.
 AT_ONCE = (["src", "build.py", "../bench"], ["../tools/dev"])
 
@@ -33,12 +31,17 @@ def functions_in(paths):
 
 
 def idle_in(paths, words):
-    """The functions of some files, outside their classes, that nothing calls: none of the files has the name beside the definition,
-    imports it from there or has an attribute of its name, and it is none of some words besides."""
+    """The functions of some files, outside their classes, that nothing calls: none of the files has the name beside the
+    definition, imports it from there or has an attribute of its name, and it is none of some words besides."""
     trees = {path: ast.parse(path.read_text(encoding="utf-8")) for path in paths}
     nodes = [node for tree in trees.values() for node in ast.walk(tree)]
     attributes = {node.attr for node in nodes if isinstance(node, ast.Attribute)} | words
-    imported = {(node.module.split(".")[-1], one.name) for node in nodes if isinstance(node, ast.ImportFrom) and node.module for one in node.names}
+    imported = {
+        (node.module.split(".")[-1], one.name)
+        for node in nodes
+        if isinstance(node, ast.ImportFrom) and node.module
+        for one in node.names
+    }
     for path, tree in trees.items():
         named = {node.id for node in ast.walk(tree) if isinstance(node, ast.Name)} | attributes
         for node in tree.body:
@@ -177,7 +180,9 @@ class Sources(unittest.TestCase):
             paths[1].write_text("from .one import there\nfrom . import third\n\nthere()\nthird.idle()\n")
             self.assertEqual(list(idle_in(paths[:1], set())), ["one.py:5 idle", "one.py:9 there"])
             paths[2].write_text("def there():\n    pass\n")
-            self.assertEqual(list(idle_in(paths, set())), ["third.py:1 there"], "of attributes the name alone does not tell")
+            self.assertEqual(
+                list(idle_in(paths, set())), ["third.py:1 there"], "of attributes the name alone does not tell"
+            )
 
     def test_a_function_has_some_40_lines(self):
         lines = {name: node.end_lineno - node.lineno + 1 for name, node in functions_in([*SOURCES, *SCRIPTS])}

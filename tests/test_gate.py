@@ -230,8 +230,8 @@ class Gate(Machine):
     def test_why_a_proof_was_refused_is_told_once_more_at_the_end(self):
         steps = (
             r"== low\nfn low::a: proved\nlogic=proved functions=1\nrt: low proved\n== low: its tests\nstatements std:"
-            r" modules loaded=1\nfn low::b: proved\nfn low::c: not proved\nfalse is not true\nrt: low: its tests are NOT"
-            r" PROVED\nrt: FAILED: low\n"
+            r" modules loaded=1\nfn low::b: proved\nfn low::c: not proved\nfalse is not true\n"
+            r"rt: low: its tests are NOT PROVED\nrt: FAILED: low\n"
         )
         status, lines = self.ran(".ci/run", STEPS=steps, RT="1")
         self.assertEqual(status, 1)

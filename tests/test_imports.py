@@ -34,12 +34,24 @@ class Imports(Case):
 
     def test_an_import_by_a_name_is_told(self):
         self.assertEqual(imports.hidden_in(imports.modules()), [])
-        words = {"importlib.import_module('clearing_tools.cases')": "clearing_tools.cases", "import_module(f'clearing_tools.{kind}')": "f'clearing_tools.{kind}'",
-                 "map(importlib.import_module, ('numpy', 'clearing_client.case'))": "clearing_client.case", "__import__(name)": "name"}
+        words = {
+            "importlib.import_module('clearing_tools.cases')": "clearing_tools.cases",
+            "import_module(f'clearing_tools.{kind}')": "f'clearing_tools.{kind}'",
+            "map(importlib.import_module, ('numpy', 'clearing_client.case'))": "clearing_client.case",
+            "__import__(name)": "name",
+        }
         for call, name in words.items():
             path = self.file("late.py", f"def read(name, kind):\n    return {call}\n")
-            self.assertEqual(imports.hidden_in({"clearing_tools.evidence.parts": path}), [f"clearing_tools.evidence.parts imports {name} by its name"])
-        self.assertEqual(imports.hidden_in({"clearing_tools.cases": self.file("late.py", "import importlib\nimportlib.import_module('numpy')\n")}), [])
+            self.assertEqual(
+                imports.hidden_in({"clearing_tools.evidence.parts": path}),
+                [f"clearing_tools.evidence.parts imports {name} by its name"],
+            )
+        self.assertEqual(
+            imports.hidden_in(
+                {"clearing_tools.cases": self.file("late.py", "import importlib\nimportlib.import_module('numpy')\n")}
+            ),
+            [],
+        )
 
     def test_what_evidence_has_apart_from_the_importers_is_the_same(self):
         """Both leave out of a command that is kept what says where to write; the one imports nothing of the other."""

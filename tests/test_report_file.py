@@ -26,7 +26,14 @@ class TheFile(Report):
         web.check_forms("a.mjs", 'import { b, c } from "./b.mjs";\nexport const d = b + c;\nconst important = 1;\n')
         for name in web.modules():
             self.assertIn(name, web.needed(name))
-        for line in ("export function f() {}", "export default 3;", "export { d };", 'import b from "./b.mjs";', 'import { b } from "./b.mjs"', 'import "./b.mjs";'):
+        for line in (
+            "export function f() {}",
+            "export default 3;",
+            "export { d };",
+            'import b from "./b.mjs";',
+            'import { b } from "./b.mjs"',
+            'import "./b.mjs";',
+        ):
             with self.assertRaisesRegex(ValueError, "^a.mjs: this line is in no form that is read: "):
                 web.check_forms("a.mjs", f"{line}\n")
 
