@@ -3,10 +3,12 @@ uses, and each lemma says in words what it states."""
 import collections
 import importlib.util
 import re
+import shutil
+import subprocess
 import unittest
 import xml.etree.ElementTree as xml
 
-from common import ROOT, tool
+from common import ROOT, Case, tool
 
 SPEC = importlib.util.spec_from_file_location("architecture", ROOT / "tools/dev/architecture.py")
 architecture = importlib.util.module_from_spec(SPEC)
@@ -90,6 +92,30 @@ class Picture(unittest.TestCase):
         self.assertEqual(parts["settle"], "starts threads")
         self.assertEqual(parts["pay_words"], "words that threads share")
         self.assertEqual(parts["clear_core"], "")
+
+
+@unittest.skipUnless(shutil.which("rt"), "without the toolchain's command rt")
+class Layout(Case):
+    """The toolchain's layout of files, without which `rt ci` refuses a crate however well it is proved."""
+
+    def changed_by(self, crate):
+        """What `rt fmt` changes in a copy of a crate."""
+        words = ["rt", "fmt"]
+        done = subprocess.run(words, cwd=self.folder / "crates" / crate, capture_output=True, encoding="utf-8")
+        self.assertEqual(done.returncode, 0, done.stdout + done.stderr)
+        return [f"{crate}: {line}" for line in done.stdout.splitlines() + done.stderr.splitlines() if line]
+
+    def test_each_crate_is_laid_out(self):
+        crates = sorted(folder.parent.name for folder in (ROOT / "crates").glob("*/src"))
+        shutil.copy(ROOT / "crates.txt", self.folder)
+        for crate in crates:
+            for part in ("src", "specs", "proofs"):
+                if (ROOT / "crates" / crate / part).is_dir():
+                    shutil.copytree(ROOT / "crates" / crate / part, self.folder / "crates" / crate / part)
+        self.assertEqual([line for crate in crates for line in self.changed_by(crate)], [])
+        with open(self.folder / "crates" / crates[0] / "src/lib.rt", "a", encoding="utf-8") as file:
+            file.write("fn  f(){}\n")
+        self.assertEqual(self.changed_by(crates[0]), [f"{crates[0]}: rt: formatted src/lib.rt"])
 
 
 class Unused(unittest.TestCase):
