@@ -1,8 +1,9 @@
 //! The texts that the program writes, as bytes.
 //!
-//! Each call gives the text of values that are there already, exactly as a definition says it, or
-//! answers want of memory. Sums over all banks are taken in 128 bits, so no call has a condition on
-//! how great the numbers are.
+//! A call gives the text of values that are there already, exactly as a definition says it, or
+//! answers want of memory; [`least_standings`] gives what several texts tell, how all banks stand
+//! under the least payments. Sums over all banks are taken in 128 bits, so no call has a condition
+//! on how great the numbers are.
 #![tactic(auto)]
 
 mod bounds;
