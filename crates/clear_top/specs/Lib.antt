@@ -5,7 +5,6 @@ pub mod Meaning
 pub mod Evidence
 pub mod Printed
 pub mod Ending
-pub mod Laws
 pub mod Visited
 pub mod Message
 pub mod Cases

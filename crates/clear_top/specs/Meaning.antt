@@ -170,16 +170,15 @@ plan_of job = record { workers = job.workers; sweeps = job.sweeps }
 abbrev pub ComesTo : Task → Job → Input → Outcome → Type 0
 ComesTo task.Check job on =
     IsPlain (checked_text on.net (banks_text on.net) (debts_text on.net))
-ComesTo task.Clear job on = Settles on.net (plan_of job) (shown_of task.Clear job.show on.net)
+ComesTo task.Clear job on = Settles on.net (plan_of job) (clear_text job.show on.net)
 ComesTo task.Central job on = IsPlain (payments_text on.net (least on.net))
-ComesTo task.Defaults job on =
-    Settles on.net (plan_of job) (shown_of task.Defaults job.show on.net)
+ComesTo task.Defaults job on = Settles on.net (plan_of job) (λ journal rounds. defaults_report on.net)
 ComesTo task.Stress job on = IsPlain (stress_text (map (block_of on.net) on.scenarios))
 ComesTo task.Replay job on =
     λ o. o ≡ answer_to on.net on.journal (judged on.net on.journal).verdict
-ComesTo task.Gen job on = Settles on.net (plan_of job) (shown_of task.Gen job.show on.net)
+ComesTo task.Gen job on = Settles on.net (plan_of job) (λ journal rounds. summary_report on.net)
 ComesTo task.Convert job on = IsPlain (banks_text_2 on.net)
-ComesTo task.Bounds job on = Settles on.net (plan_of job) (shown_of task.Bounds job.show on.net)
+ComesTo task.Bounds job on = Settles on.net (plan_of job) (λ journal rounds. bounds_report on.net)
 ComesTo task.Rescue job on = Rescues on.net (plan_of job) on.bank
 ComesTo task.Compress job on = IsCompressed on.net
 ComesTo task.Costs job on = IsPlain (costs_report on.net job.keep)

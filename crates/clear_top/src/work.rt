@@ -45,7 +45,10 @@ pub fn work<R: Threads + Sync, F: Shelf, G: Gate + Sync>(
     ensures works { IfOk result (Works (F.files files.old) job.now) }
     ensures stopped { IfErr result (Stops (on_shelf F.files F.faults files.old files.new) job.now) }
 {
-    let plan = planned(job);
+    let plan = Plan {
+        workers: job.workers,
+        sweeps: job.sweeps,
+    };
     let engine = Engine { alloc, plan, gate };
     match source_of(job.task) {
         Source::Files => {
@@ -68,16 +71,6 @@ pub fn work<R: Threads + Sync, F: Shelf, G: Gate + Sync>(
             let net = load_generated(alloc, job)?;
             Ok(report(rt, &engine, net, job)?)
         }
-    }
-}
-
-// The workers and sweeps of a job.
-fn planned(job: &Job) -> Plan
-    ensures { result ≡ plan_of job.now }
-{
-    Plan {
-        workers: job.workers,
-        sweeps: job.sweeps,
     }
 }
 
