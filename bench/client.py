@@ -6,6 +6,7 @@
 A network of 1,000 banks and 20,000 debts, the least of so many runs by turns (5). Prints a line with both times in
 milliseconds and their ratio. The environment variable CLEARING names the program, as for the package. Wants pandas.
 """
+import argparse
 import pathlib
 import subprocess
 import sys
@@ -17,10 +18,9 @@ BENCH = pathlib.Path(__file__).resolve().parent
 sys.dont_write_bytecode = True
 sys.path[:0] = [str(BENCH), str(BENCH.parent / "python/src")]
 import clearing_client as cc  # noqa: E402
+import inputs  # noqa: E402
 import timing  # noqa: E402
 from clearing_client.program import find_program  # noqa: E402
-
-RULES = ["order", "equal", "losses", "jefferson", "webster", "adams"]
 
 
 def frames() -> Tuple[Any, Any]:
@@ -30,7 +30,7 @@ def frames() -> Tuple[Any, Any]:
     banks = {
         "name": [f"bank {n}" for n in range(1000)],
         "cash": [n * 7919 % 2000 for n in range(1000)],
-        "rule": [RULES[n % 6] for n in range(1000)],
+        "rule": [inputs.RULES[n % 6] for n in range(1000)],
     }
     pairs = [(n, (n + step) % 1000) for n in range(1000) for step in range(1, 21)]
     debts = {
@@ -67,4 +67,6 @@ def main(runs: int) -> None:
 
 
 if __name__ == "__main__":
-    main(int(sys.argv[1]) if sys.argv[1:] else 5)
+    parser = argparse.ArgumentParser(description=__doc__, formatter_class=argparse.RawDescriptionHelpFormatter)
+    parser.add_argument("runs", metavar="RUNS", type=int, nargs="?", default=5, help="how often each job is run (5)")
+    main(parser.parse_args().runs)

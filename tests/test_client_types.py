@@ -211,6 +211,22 @@ class Sources(unittest.TestCase):
         self.assertEqual((most, wide), (120, []))
         self.assertGreater(len(OTHERS), 40)
 
+    def test_a_skip_stands_on_a_test(self):
+        """On another function it skips nothing, and hides what calls that."""
+
+        def astray(text):
+            nodes = (node for node in ast.walk(ast.parse(text)) if isinstance(node, ast.FunctionDef))
+            return [
+                node.name
+                for node in nodes
+                if not node.name.startswith(("test", "setUp"))
+                and any("skip" in ast.unparse(one) for one in node.decorator_list)
+            ]
+
+        for path in TESTS:
+            self.assertEqual(astray(path.read_text(encoding="utf-8")), [], path)
+        self.assertEqual(astray("@unittest.skipIf(WHY, WHY)\ndef made():\n    pass\n"), ["made"])
+
     def test_the_packages_and_the_scripts_have_no_idle_name(self):
         if not FLAKE8:
             self.skipTest("without flake8 (Debian's package flake8)")

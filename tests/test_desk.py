@@ -34,7 +34,6 @@ def standings(task, *words):
     return [line.split(",") for line in lines[start + 1 :] if line and not line.startswith(("total,", "cash,"))]
 
 
-@unittest.skipIf(REASON, REASON)
 def account_of(base, cleared, bank):
     """The account of a bank in a state."""
     from clearing_tools.desk import account
@@ -43,6 +42,7 @@ def account_of(base, cleared, bank):
     return account.account_by(base, cleared, bank, owes, owed.get(bank, []))
 
 
+@unittest.skipIf(REASON, REASON)
 class Desk(Case):
     def desk(self, files=None, *more, **others):
         return Running(self, files_of(TWELVE) if files is None else files, *more, **others)

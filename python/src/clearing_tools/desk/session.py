@@ -9,7 +9,7 @@ import pathlib
 import zipfile
 from typing import Dict, List, Mapping, Sequence, Tuple
 
-from clearing_client.case import FILES, Case
+from clearing_client.case import FILES
 from clearing_client.description import NAME
 from clearing_client.errors import ClearingError
 from clearing_client.limits import MOST
@@ -137,11 +137,3 @@ def pairs_of(losses: object) -> Sequence[Tuple[object, object]]:
     if not isinstance(losses, list) or not all(isinstance(pair, list) and len(pair) == 2 for pair in losses):
         raise states.MalformedChangeError("losses are pairs of a bank and an amount")
     return [(pair[0], pair[1]) for pair in losses]
-
-
-def read_case(folder: pathlib.Path) -> Case:
-    """The case of a folder that a session was unpacked into."""
-    try:
-        return Case.read(folder)
-    except ClearingError as fault:
-        raise runner.ToolError(str(fault), 4) from fault
