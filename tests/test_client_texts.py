@@ -15,8 +15,14 @@ from clearing_client.results import (
     Costs,
     Defaults,
     Generated,
+    Impact,
+    Journal,
+    Outcomes,
+    Rescue,
+    Rescues,
+    Stress,
+    Verdict,
 )
-from clearing_client.results import Impact, Journal, Outcomes, Rescue, Rescues, Stress, Verdict
 
 
 def lines(table, without=()):
