@@ -8,9 +8,12 @@ use Rattle.pay_words.specs.declared.payment.Payment.{Payment}
 use Rattle.pay_words.specs.declared.view.Shown.{Shown}
 use Rattle.pay_words.specs.declared.view.View.{View}
 use Rattle.pay_words.specs.Words.{payment_of}
-use Rattle.pay_words.specs.Views.{IsSound, IsCalm, HasSeenFloor, HasSeenAll, HoldsAll, OwesNoRing}
-use Rattle.pay_words.specs.Views.{is_marked, holds, looked, raised, rung, took, handed, without}
-use Rattle.pay_words.specs.Views.{rejoined}
+use Rattle.clear_core.specs.Raised.{is_marked}
+use Rattle.pay_words.specs.Holding.{HoldsAll, holds}
+use Rattle.pay_words.specs.Sound.{IsSound}
+use Rattle.pay_words.specs.Seating.{handed, without, rejoined}
+use Rattle.pay_words.specs.Paying.{looked, raised}
+use Rattle.pay_words.specs.Ringing.{IsCalm, HasSeenFloor, HasSeenAll, OwesNoRing, rung, took}
 
 -- a view that shows something else
 abbrev pub showing : View → Shown → View
