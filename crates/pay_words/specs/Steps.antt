@@ -1,4 +1,7 @@
--- What each atomic step on a board changes of a seat's view, and what it tells.
+-- What each atomic step on a board changes of a seat's view, and what it tells. What a step tells is
+-- said of the step, whose `word` is the place of the word, of the seat before it, of the number that
+-- was found or stored, and of the seat after it. A seat of a table is its view and its slots, of
+-- which a board has none.
 use Rattle.std.specs.Prelude.{◌≡◌, ℕ, ◌+◌, ◌≤◌, ◌==◌, if◌then◌else◌, true, [], false, length}
 use Rattle.std.specs.Prelude.{slice_index}
 use Rattle.atomic_table.specs.Table.{Me, Step}

@@ -1,4 +1,4 @@
-//! What is done with a seat of a worker on a board: looks, raises, rings and takes.
+//! What is done with a seat on a board: looks, raises, rings and takes.
 ghost use Rattle.clear_core.specs.Clearing.{least};
 ghost use Rattle.clear_core.specs.Raised.{is_marked};
 ghost use Rattle.clr_net.specs.Net.{creditor_of, debtor_of};

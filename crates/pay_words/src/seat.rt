@@ -34,6 +34,7 @@ pub struct PaySeat {
     pub(crate) worker: u32,
 }
 
+// Of a seat of a table, `me` is its view and its slots, of which a board has none.
 impl Model for PaySeat {
     ghost use Rattle.std.specs.Prelude.{◌≡◌, []};
     ghost use Rattle.pay_words.specs.Memory.{IsInMemory, seat_memory};
