@@ -3,6 +3,8 @@ pub mod Looks
 pub mod Raises
 pub mod Rings
 pub mod Views
+pub mod OneVisit
+pub mod Rest
 pub mod BankSets
 pub mod Called
 pub mod Visits

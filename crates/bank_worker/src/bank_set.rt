@@ -1,3 +1,4 @@
+//! Sets of banks, which are searched by whole words.
 ghost use Rattle.bank_worker.specs.BankSets.{HaveNoneInBoth, is_in};
 ghost use Rattle.bank_worker.specs.declared.bank_set.TheConstants.{WORDS};
 ghost use Rattle.clr_net.specs.declared.TheConstants.{MAX_BANKS};

@@ -1,3 +1,4 @@
+//! The desks of a worker.
 ghost use Rattle.bank_desk.specs.Desks.{desk_of, with_cash_in};
 ghost use Rattle.bank_worker.specs.Offices.{banks_of_worker};
 ghost use Rattle.bank_worker.specs.Views.{banks_of, desk_at};

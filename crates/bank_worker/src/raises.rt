@@ -1,3 +1,4 @@
+//! The second part of a visit: raises of what the bank pays.
 ghost use Rattle.bank_worker.specs.Raises.{AreOwedBy, AreTargets, IsRaised};
 ghost use Rattle.bank_worker.specs.Views.{IsWorking};
 ghost use Rattle.bank_worker.specs.Visits.{AddsRaises};

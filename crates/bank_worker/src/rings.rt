@@ -1,3 +1,4 @@
+//! The third part of a visit: rings of the creditors that are paid more.
 ghost use Rattle.bank_worker.specs.Rings.{AreMarksBelow, AreMarksUpTo, IsRungAll, OweRings};
 ghost use Rattle.bank_worker.specs.Rings.{creditors_of};
 ghost use Rattle.pay_words.specs.Views.{IsAt};

@@ -4,11 +4,10 @@ use Rattle.std.proofs.Common.{inl, inr}
 use Rattle.pay_words.specs.Sealed.{Sealed}
 use Rattle.clear_words.specs.declared.job.Job.{Job}
 use Rattle.net_check.specs.declared.fault.Fault.{Fault}
-use Rattle.clear_top.specs.Ending.{IsRefusedOrMem, IsUntouched, IsUsageOrMem, JobEnds}
+use Rattle.clear_top.specs.Ending.{IsUntouched, IsUsageOrMem, JobEnds, RunEnds, Works}
+use Rattle.clear_top.specs.Laws.{IsRefusedOrMem, WasPartWritten, WasWritten, WritesText}
 use Rattle.clear_load.specs.Loading.{NoneRose, OnFiles, ShelfCall}
-use Rattle.clear_top.specs.Ending.{RunEnds}
 use Rattle.clr_edge.specs.Taking.{SinkCall, SinkRose}
-use Rattle.clear_top.specs.Ending.{WasPartWritten, WasWritten, Works, WritesText}
 use Rattle.clear_top.specs.Meaning.{Means}
 use Rattle.clear_load.specs.Reading.{Files, Input, reading}
 use Rattle.clear_top.specs.Outcome.{Outcome}

@@ -20,7 +20,9 @@ use Rattle.raise_journal.specs.ReadJournal.{journal_within, raises_in_file}
 use Rattle.raise_journal.specs.Verdicts.{judged}
 use Rattle.raise_journal.specs.declared.verdict.Verdict.TheVariants as verdict
 use Rattle.clear_top.specs.Evidence.{IsEvidence, ReplaysText, ShowsJournal}
-use Rattle.clear_top.specs.Meaning.{ComesTo, Means, Settles, answer_to, clear_text, plan_of}
+use Rattle.clear_top.specs.Meaning.{ComesTo, Means, answer_to, plan_of}
+use Rattle.clear_top.specs.Reports.{clear_text}
+use Rattle.clear_top.specs.Runs.{Settles}
 use Rattle.clear_load.specs.Reading.{Files, Input, Read, alone, all_whole, both_whole, contents}
 use Rattle.clear_load.specs.Reading.{net_in, reading, reading_by, then_read, whole}
 use Rattle.clear_load.specs.Sources.{source_of}

@@ -6,10 +6,12 @@ use Rattle.net_check.specs.declared.fault.FileKind.{FileKind}
 use Rattle.net_gen.specs.Generated.{generated}
 use Rattle.pay_words.specs.Sealed.{Sealed}
 use Rattle.clear_load.specs.Loading.{AreRead, Gives, ShelfCall}
-use Rattle.clear_top.specs.Ending.{BlamesNoFile, JobEnds}
+use Rattle.clear_top.specs.Ending.{JobEnds, Works}
+use Rattle.clear_top.specs.Laws.{BlamesNoFile, WritesText, WroteSummary}
 use Rattle.clr_edge.specs.Taking.{SinkCall}
-use Rattle.clear_top.specs.Ending.{Works, WritesText, WroteSummary}
-use Rattle.clear_top.specs.Meaning.{ComesTo, Settles, plan_of, summary_report}
+use Rattle.clear_top.specs.Meaning.{ComesTo, plan_of}
+use Rattle.clear_top.specs.Reports.{summary_report}
+use Rattle.clear_top.specs.Runs.{Settles}
 use Rattle.clear_top.specs.Outcome.{Outcome}
 use Rattle.clear_load.specs.Reading.{Files, Input, alone, reading, reading_by}
 use Rattle.clear_load.specs.Sources.{name_by, name_in, source_of}

@@ -13,7 +13,8 @@ use Rattle.settle.specs.Made.{IsJournalByBells, workers_of_run}
 use Rattle.settle.specs.Runs.{IsSettled}
 use Rattle.settle.specs.declared.plan.Plan.{Plan}
 use Rattle.settle.specs.declared.runs.Settled.{Settled}
-use Rattle.clear_top.specs.Meaning.{ComesTo, IsPlain, Settles, answer_to}
+use Rattle.clear_top.specs.Meaning.{ComesTo, IsPlain, answer_to}
+use Rattle.clear_top.specs.Runs.{Settles}
 use Rattle.clear_top.specs.Outcome.{Outcome}
 use Rattle.clear_load.specs.Reading.{Input}
 use Rattle.clear_load.specs.Sources.{has_record}

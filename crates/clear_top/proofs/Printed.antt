@@ -13,7 +13,9 @@ use Rattle.clear_words.specs.declared.show.Show.TheVariants as show
 use Rattle.clr_net.specs.Limits.{IsNetwork}
 use Rattle.clr_net.specs.Net.{Net}
 use Rattle.net_csv.proofs.Networks.{network_of_ok}
-use Rattle.clear_top.specs.Meaning.{ComesTo, Means, Settles, clear_text, plan_of}
+use Rattle.clear_top.specs.Meaning.{ComesTo, Means, plan_of}
+use Rattle.clear_top.specs.Reports.{clear_text}
+use Rattle.clear_top.specs.Runs.{Settles}
 use Rattle.clear_top.specs.Outcome.{Outcome}
 use Rattle.clear_top.specs.Printed.{PrintsLeast, ShowsPayments}
 use Rattle.clear_load.specs.Reading.{Files, both_whole, reading_by}

@@ -11,8 +11,8 @@ use Rattle.raise_journal.specs.Verdicts.{judged}
 use Rattle.raise_journal.specs.declared.verdict.Verdict.{Verdict}
 use Rattle.raise_journal.specs.declared.verdict.Verdict.TheVariants as verdict
 use Rattle.clear_load.specs.Loading.{AreRead, OnFiles, ShelfCall}
-use Rattle.clear_top.specs.Ending.{WritesNothing, AnswersRecord, IsFoundUnlawful, JobEnds, RunEnds}
-use Rattle.clear_top.specs.Ending.{Works, WritesText}
+use Rattle.clear_top.specs.Ending.{JobEnds, RunEnds, Works, WritesNothing}
+use Rattle.clear_top.specs.Laws.{AnswersRecord, IsFoundUnlawful, WritesText}
 use Rattle.clr_edge.specs.Taking.{SinkCall}
 use Rattle.clear_top.specs.Meaning.{ComesTo, answer_to}
 use Rattle.clear_top.specs.Visited.{IsAllByBells}

@@ -10,7 +10,7 @@ use Rattle.pay_words.proofs.Lawful.{sum-least_le}
 use Rattle.settle.specs.Runs.{IsSettled}
 use Rattle.settle.specs.declared.plan.Plan.{Plan}
 use Rattle.settle.specs.declared.runs.Settled.{Settled}
-use Rattle.clear_top.specs.Meaning.{IsRun}
+use Rattle.clear_top.specs.Runs.{IsRun}
 
 -- what was settled, from whatever past, is a run
 pub run_of : (net : Net) → IsNetwork net → (past : List Raise) (plan : Plan) (s : Settled) → IsSettled net past plan s

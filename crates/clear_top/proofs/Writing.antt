@@ -9,7 +9,8 @@ use Rattle.raise_journal.specs.Verdicts.{judged}
 use Rattle.raise_journal.specs.declared.verdict.Verdict.{Verdict}
 use Rattle.raise_journal.specs.declared.verdict.Verdict.TheVariants as verdict
 use Rattle.clear_load.specs.Loading.{Gives, ShelfCall}
-use Rattle.clear_top.specs.Ending.{JobEnds, WritesNothing, WritesText}
+use Rattle.clear_top.specs.Ending.{JobEnds, WritesNothing}
+use Rattle.clear_top.specs.Laws.{WritesText}
 use Rattle.clr_edge.specs.Taking.{SinkCall, TakesWhole}
 use Rattle.clear_top.specs.Meaning.{ComesTo, answer_to}
 use Rattle.clear_load.specs.Reading.{Input}

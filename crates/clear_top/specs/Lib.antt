@@ -1,10 +1,13 @@
 pub mod Status
 pub mod Outcome
 pub mod Bodies
+pub mod Reports
+pub mod Runs
 pub mod Meaning
 pub mod Evidence
 pub mod Printed
 pub mod Ending
+pub mod Laws
 pub mod Visited
 pub mod Message
 pub mod Cases

@@ -11,8 +11,8 @@ use Rattle.settle.specs.declared.plan.Plan.{Plan}
 use Rattle.settle.specs.declared.runs.Settled.{Settled}
 
 -- the record is of a run from this past: beside the past its journal has what the very workers of
--- the rounds raised, each of which did nothing but visits to which bells called it; they are as many
--- as seats were handed out
+-- the rounds raised, each of which did nothing but visits to which bells called it; they are as
+-- many as seats were handed out
 pub record IsByBells (past : List Raise) (sealed : Sealed) : Type 0 where
   pub net : Net
   pub plan : Plan

@@ -1,7 +1,8 @@
 //! The tasks without workers.
 ghost use Rattle.clear_core.specs.Clearing.{least};
 ghost use Rattle.clear_report.specs.Text.{checked_text, payments_text};
-ghost use Rattle.clear_top.specs.Meaning.{IsCompressed, IsPlain, cost_bounds_report, costs_report};
+ghost use Rattle.clear_top.specs.Meaning.{IsCompressed, IsPlain};
+ghost use Rattle.clear_top.specs.Reports.{cost_bounds_report, costs_report};
 ghost use Rattle.net_csv.specs.Printing.{banks_text, debts_text};
 ghost use Rattle.std.specs.Prelude.{◌≤◌, IfOk};
 

@@ -1,3 +1,4 @@
+//! The line that tells a person how a run ended.
 ghost use Rattle.clr_edge.specs.Taking.{on_sink};
 ghost use Rattle.clear_top.specs.Message.{message, name_if, TakesText};
 ghost use Rattle.std.specs.List.{concat};
@@ -56,6 +57,7 @@ fn name_of<'a>(job: Option<&'a Job>, kind: FileKind) -> &'a str
     }
 }
 
+// Writes that the file of this name cannot be read.
 fn tell_name<E: Sink>(err: &mut E, name: &str)
     ensures { TakesText (on_sink E.written E.faults err.old err.new)
         (concat (codes "clearing: cannot read " ∷ name.now ∷ codes "\n" ∷ [])) }
@@ -68,6 +70,7 @@ fn tell_name<E: Sink>(err: &mut E, name: &str)
     put_pieces(err, &pieces);
 }
 
+// Writes which file has a fault, in which row, and what it is.
 fn tell_fault<E: Sink>(err: &mut E, fault: Fault)
     ensures { TakesText (on_sink E.written E.faults err.old err.new)
         (message (Status.Refused fault) None) }

@@ -107,8 +107,8 @@ impl Outcome {
         }
     }
 
-    /// Writes the text, with the lines that are made of it now through the room. At a fault some bytes from
-    /// its front have been written, but not all, and the count rose. It takes no memory.
+    /// Writes the text, with the lines that are made of it now through the room. At a fault some
+    /// bytes from its front have been written, but not all, and the count rose. It takes no memory.
     pub fn put<S: Sink>(&self, sink: &mut S, room: &mut Vec<u8>) -> Result<(), SinkFault>
         requires { ROOM ≤ vec_capacity room.old }
         ensures written { OnOk result (TakesWhole (on_sink S.written S.faults sink.old sink.new)

@@ -15,6 +15,7 @@ pub struct Recorded {
     pub text: Text,
     pub sealed: Record,
     pub closing: Option<Text>,
+    // Each raise is of a debt of the network, so that its line can be written.
     ghost debts: { All (λ r. r.debt.0 < length sealed.net.debts) sealed.journal },
 }
 

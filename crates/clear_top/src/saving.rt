@@ -1,7 +1,7 @@
 //! A bank saved with the least sum, and its network cleared from what was paid before.
 ghost use Rattle.clear_core.specs.Clearing.{least};
 ghost use Rattle.clear_report.specs.Rescues.{rescued_text};
-ghost use Rattle.clear_top.specs.Meaning.{Rescues};
+ghost use Rattle.clear_top.specs.Runs.{Rescues};
 ghost use Rattle.settle.specs.Runs.{IsSettled};
 ghost use Rattle.settle.specs.declared.runs.Settled.{Settled};
 ghost use Rattle.std.specs.Prelude.{◌≡◌, ◌<◌, [], IfOk, length};
@@ -38,7 +38,7 @@ pub fn save<R: Threads + Sync, G: Gate + Sync>(
     )
 }
 
-// So it does after a run of this journal, which made the least payments.
+// Does so once the run without the sum is over: it made the least payments, by this journal.
 fn save_after<R: Threads + Sync, G: Gate + Sync>(
     rt: &R,
     engine: &Engine<'_, G>,

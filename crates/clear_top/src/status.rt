@@ -1,3 +1,4 @@
+//! How a run ends, and with which code.
 ghost use Rattle.clear_top.specs.Status.{code_of, status_of};
 ghost use Rattle.std.specs.Prelude.{◌≡◌};
 

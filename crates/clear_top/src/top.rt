@@ -1,11 +1,11 @@
 //! The top call: a run of the program.
-ghost use Rattle.clear_top.specs.Ending.{JobEnds, RunEnds, WritesNothing, asked};
 ghost use Rattle.clear_load.specs.Loading.{on_shelf};
-ghost use Rattle.clr_edge.specs.Taking.{on_sink};
-ghost use Rattle.clear_top.specs.Message.{message, TakesText};
 ghost use Rattle.clear_load.specs.Sources.{HasNoFiles, has_files, source_of};
+ghost use Rattle.clear_top.specs.Ending.{JobEnds, RunEnds, WritesNothing, asked};
+ghost use Rattle.clear_top.specs.Message.{TakesText, message};
 ghost use Rattle.clear_top.specs.declared.status.Status.{Status};
 ghost use Rattle.clear_words.specs.Limits.{IsJob};
+ghost use Rattle.clr_edge.specs.Taking.{on_sink};
 ghost use Rattle.std.specs.Prelude.{◌≡◌, ◌≢◌, false};
 
 use crate::message::tell;

@@ -14,7 +14,7 @@ use Rattle.std.proofs.lemmas.List.Sums.{sum_by-cons, sum_by-set, get_or-le-sum_b
 use mathlib.Core.Option.{some, some-ne-none, some-injective}
 use lib.ListN.{get_elem?}
 use Rattle.pay_words.specs.declared.view.View.{View}
-use Rattle.pay_words.specs.Views.{tabled}
+use Rattle.pay_words.specs.Tables.{tabled}
 use Rattle.pay_words.specs.Bells.{how_many}
 use Rattle.pay_words.proofs.Tables.{tabled_at, length-tabled, sum_less, tabled_most, changed}
 

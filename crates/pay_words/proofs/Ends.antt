@@ -18,7 +18,9 @@ use Rattle.pay_words.specs.Belongs.{Belongs}
 use Rattle.pay_words.specs.Ends.{payments_of, values, Ends}
 use Rattle.pay_words.specs.Words.{unpaid, payment_of}
 use Rattle.pay_words.specs.Traces.{Traces, AreLawfulTraces, ending, raises_of, last_payment, start_of, paid_in}
-use Rattle.pay_words.specs.Views.{tabled, HoldsAll, holds, a_raise}
+use Rattle.pay_words.specs.Tables.{tabled}
+use Rattle.pay_words.specs.Holding.{HoldsAll, holds}
+use Rattle.pay_words.specs.Paying.{a_raise}
 use Rattle.pay_words.specs.BoardRule.{BoardHistory, Suits, own_raises}
 use Rattle.pay_words.specs.Bells.{taken_of, made_of}
 use Rattle.pay_words.proofs.Tables.{tabled_at, tabled_agree, length-tabled}

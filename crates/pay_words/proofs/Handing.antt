@@ -3,7 +3,8 @@ use Rattle.std.proofs.Common.{◌≡◌, ◌≢◌, ℕ, ◌<◌, length, true, 
 use Rattle.std.specs.Prelude.{◌%◌}
 use Rattle.std.proofs.lemmas.Bool.{false_from_ne_true}
 use Rattle.pay_words.specs.declared.view.Shown.{Shown}
-use Rattle.pay_words.specs.Views.{HoldsAll, HoldsAllOf, holds, is_of_worker, handed, without, rejoined}
+use Rattle.pay_words.specs.Holding.{HoldsAll, HoldsAllOf, holds, is_of_worker}
+use Rattle.pay_words.specs.Seating.{handed, without, rejoined}
 use Rattle.pay_words.proofs.Marks.{marked}
 use Rattle.pay_words.proofs.Splits.{goes, goes_if, stays}
 use Rattle.pay_words.proofs.Joins.{held_first, held_second}

@@ -1,6 +1,6 @@
 -- The master takes a seat back.
 use Rattle.pay_words.proofs.Views.{its, got}
-use Rattle.pay_words.specs.Views.{PaysWithin}
+use Rattle.pay_words.specs.Sound.{PaysWithin}
 use Rattle.std.proofs.lemmas.Bool.{cond_both}
 use Rattle.pay_words.proofs.Views.{each_set, at_its, Keeps}
 use Rattle.pay_words.proofs.Bells.{live_of}
@@ -20,7 +20,11 @@ use Rattle.pay_words.specs.declared.origin.Origin.{Origin}
 use Rattle.pay_words.specs.declared.payment.Payment.{Payment}
 use Rattle.pay_words.specs.declared.view.Shown.{Shown}
 use Rattle.pay_words.specs.declared.view.View.{View}
-use Rattle.pay_words.specs.Views.{IsSound, OwesNoRing, is_marked, holds, rejoined, rejoined_over}
+use Rattle.clear_core.specs.Raised.{is_marked}
+use Rattle.pay_words.specs.Holding.{holds}
+use Rattle.pay_words.specs.Sound.{IsSound}
+use Rattle.pay_words.specs.Seating.{rejoined, rejoined_over}
+use Rattle.pay_words.specs.Ringing.{OwesNoRing}
 use Rattle.pay_words.specs.Traces.{Traces, Stood, ending, raises_of}
 use Rattle.pay_words.specs.BoardRule.{BoardHistory, Leads, Suits, Sits, own_raises}
 use Rattle.pay_words.specs.Bells.{BellLedger, HasBells, IsRung, taken_of, made_of}

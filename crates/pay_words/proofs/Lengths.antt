@@ -5,7 +5,9 @@ use Rattle.std.proofs.lemmas.List.FromFn.{length-map-range_with_len}
 use Rattle.clr_net.specs.Net.{Net}
 use Rattle.pay_words.specs.declared.payment.Payment.{Payment}
 use Rattle.pay_words.specs.declared.view.Shown.{Shown}
-use Rattle.pay_words.specs.Views.{IsOver, looked, opening, raised, rejoined_over, without}
+use Rattle.pay_words.specs.Sound.{IsOver}
+use Rattle.pay_words.specs.Seating.{opening, rejoined_over, without}
+use Rattle.pay_words.specs.Paying.{looked, raised}
 
 -- a look keeps the lengths of the lists
 pub over_looked : (s : Shown) (x : ℕ) (p : Payment) → IsOver s → IsOver (looked s x p)

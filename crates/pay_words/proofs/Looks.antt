@@ -18,7 +18,9 @@ use Rattle.pay_words.specs.declared.payment.Payment.{Payment}
 use Rattle.pay_words.specs.declared.view.Shown.{Shown}
 use Rattle.pay_words.specs.declared.view.View.{View}
 use Rattle.pay_words.specs.Words.{payment_of}
-use Rattle.pay_words.specs.Views.{IsSound, holds, looked}
+use Rattle.pay_words.specs.Holding.{holds}
+use Rattle.pay_words.specs.Sound.{IsSound}
+use Rattle.pay_words.specs.Paying.{looked}
 use Rattle.pay_words.specs.Traces.{Stood, ending, total}
 use Rattle.pay_words.specs.BoardRule.{BoardHistory, Suits, MeetsRule}
 use Rattle.pay_words.specs.Steps.{LookTells, Looks, showing}

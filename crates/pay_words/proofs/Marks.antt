@@ -7,7 +7,8 @@ use Rattle.clr_net.proofs.Lists.{sums_agree}
 use Rattle.clr_net.specs.Net.{Net, column, creditor_of}
 use Rattle.clr_net.proofs.RowsAndColumns.{column_place}
 use Rattle.clear_core.specs.Clearing.{receipts}
-use Rattle.pay_words.specs.Views.{tabled, chosen, is_marked}
+use Rattle.clear_core.specs.Raised.{is_marked}
+use Rattle.pay_words.specs.Tables.{tabled, chosen}
 use Rattle.pay_words.proofs.Tables.{tabled_at, length-tabled}
 
 module _ (n : ℕ) (f : ℕ → Bool) (b : ℕ) where

@@ -18,12 +18,13 @@ use Rattle.pay_words.specs.declared.view.View.{View}
 use Rattle.pay_words.specs.Words.{word_of}
 use Rattle.pay_words.specs.Belongs.{Belongs}
 use Rattle.pay_words.specs.Traces.{Traces, AreLawfulTraces, ending, raises_of, total}
-use Rattle.pay_words.specs.Views.{IsSound, greatest, opening}
+use Rattle.pay_words.specs.Sound.{IsSound}
+use Rattle.pay_words.specs.Seating.{greatest, opening}
 use Rattle.pay_words.specs.BoardRule.{BoardHistory, Suits, MeetsRule, opening_view}
 use Rattle.pay_words.specs.Bells.{BellLedger, HasBells, taken_of, made_of, bell}
 use Rattle.pay_words.proofs.Traces.{ending_stood, under_own_ending}
 use Rattle.pay_words.proofs.Lawful.{paid_in_below, total_le, value_fits}
-use Rattle.pay_words.specs.Seats.{IsInMemory, seat_memory}
+use Rattle.pay_words.specs.Memory.{IsInMemory, seat_memory}
 use Rattle.pay_words.proofs.Tables.{tabled_at}
 use Rattle.std.proofs.Common.{inl}
 use Rattle.std.proofs.lemmas.List.Sums.{sum_by-cons}

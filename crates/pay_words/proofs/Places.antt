@@ -4,7 +4,8 @@ use Rattle.std.specs.Prelude.{◌%◌}
 use Rattle.std.proofs.Math.Nat.{mod-lt}
 use Rattle.std.proofs.lemmas.Bool.{eq-eqb}
 use Rattle.pay_words.specs.declared.view.Shown.{Shown}
-use Rattle.pay_words.specs.Views.{HoldsAll, HoldsAllOf, IsOver, holds}
+use Rattle.pay_words.specs.Holding.{HoldsAll, HoldsAllOf, holds}
+use Rattle.pay_words.specs.Sound.{IsOver}
 use Rattle.std.proofs.lemmas.List.{get_or_past}
 use mathlib.Core.Logic.{dite}
 use native.Mathlib.Decide.{dec_lt}

@@ -21,7 +21,9 @@ use Rattle.pay_words.specs.declared.payment.Payment.{Payment}
 use Rattle.pay_words.specs.declared.view.Shown.{Shown}
 use Rattle.pay_words.specs.declared.view.View.{View}
 use Rattle.pay_words.specs.Words.{word_of, payment_of}
-use Rattle.pay_words.specs.Views.{IsSound, MayRaise, holds, raised, a_raise}
+use Rattle.pay_words.specs.Holding.{holds}
+use Rattle.pay_words.specs.Sound.{IsSound}
+use Rattle.pay_words.specs.Paying.{MayRaise, raised, a_raise}
 use Rattle.pay_words.specs.Traces.{AreLawfulTraces, ending, raises_of, total}
 use Rattle.pay_words.specs.BoardRule.{BoardHistory, Suits}
 use Rattle.pay_words.specs.Steps.{Raises, showing}

@@ -23,7 +23,10 @@ use Rattle.pay_words.specs.declared.payment.Payment.{Payment}
 use Rattle.pay_words.specs.declared.view.Shown.{Shown}
 use Rattle.pay_words.specs.declared.view.View.{View}
 use Rattle.pay_words.specs.Traces.{Traces, ending}
-use Rattle.pay_words.specs.Views.{IsSound, IsCalm, OwesRing, holds, is_marked, rung, took}
+use Rattle.clear_core.specs.Raised.{is_marked}
+use Rattle.pay_words.specs.Holding.{holds}
+use Rattle.pay_words.specs.Sound.{IsSound}
+use Rattle.pay_words.specs.Ringing.{IsCalm, OwesRing, rung, took}
 use Rattle.pay_words.specs.BoardRule.{BoardHistory, Suits, MeetsRule}
 use Rattle.pay_words.specs.Bells.{BellLedger, HasBells, IsCalled, IsRung, bell, taken_of, made_of}
 use Rattle.pay_words.specs.Steps.{TakeTells, Rings, Glances, Takes, after_take, showing}

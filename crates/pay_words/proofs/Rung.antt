@@ -13,7 +13,8 @@ use Rattle.pay_words.specs.declared.origin.Origin.{Origin}
 use Rattle.pay_words.specs.declared.payment.Payment.{Payment}
 use Rattle.pay_words.specs.declared.view.View.{View}
 use Rattle.pay_words.specs.Traces.{Traces, ending}
-use Rattle.pay_words.specs.Views.{holds, looked, raised}
+use Rattle.pay_words.specs.Holding.{holds}
+use Rattle.pay_words.specs.Paying.{looked, raised}
 use Rattle.pay_words.specs.Bells.{BellLedger, HasBells, IsRung, bell, bells_up, taken_of, made_of}
 use Rattle.pay_words.specs.Steps.{showing}
 use Rattle.pay_words.proofs.Tables.{tabled_agree, changed}

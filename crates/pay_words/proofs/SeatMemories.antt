@@ -7,8 +7,10 @@ use Rattle.std.proofs.lemmas.List.{get_or_read}
 use Rattle.std.proofs.Math.Nat.{mod-lt}
 use Rattle.clr_net.specs.Limits.{IsNetwork}
 use Rattle.clr_net.specs.Net.{Net, debtor_of}
-use Rattle.pay_words.specs.Seats.{SeatMemory, HasAll, HasOwn, Tells, list_for, seat_memory}
-use Rattle.pay_words.specs.Views.{chosen, is_marked, is_of_worker, tabled}
+use Rattle.pay_words.specs.Memory.{SeatMemory, HasAll, HasOwn, Tells, list_for, seat_memory}
+use Rattle.clear_core.specs.Raised.{is_marked}
+use Rattle.pay_words.specs.Tables.{chosen, tabled}
+use Rattle.pay_words.specs.Holding.{is_of_worker}
 use Rattle.pay_words.proofs.Marks.{both_marked, chosen_each, either_marked, marked_if}
 use Rattle.pay_words.proofs.Tables.{tabled_at}
 

@@ -1,5 +1,5 @@
 -- What a seat has in memory after each of its steps.
-use Rattle.pay_words.specs.Views.{holds}
+use Rattle.pay_words.specs.Holding.{holds}
 use Rattle.clear_core.specs.Clearing.{receipts}
 use Rattle.std.proofs.lemmas.Bool.{cond_both}
 use Rattle.pay_words.proofs.Splits.{goes_from, stays_if, sound_fewer}
@@ -15,8 +15,12 @@ use Rattle.clear_core.proofs.Rows.{claim_in_limit}
 use Rattle.pay_words.specs.declared.payment.Payment.{Payment}
 use Rattle.pay_words.specs.declared.view.View.{View}
 use Rattle.pay_words.specs.Steps.{after_take, showing, part_of, rest_of, both_of}
-use Rattle.pay_words.specs.Seats.{HasAll, HasOwn, IsInMemory, SeatMemory, Tells, seat_memory}
-use Rattle.pay_words.specs.Views.{BoardView, Place, SeatView, IsSound, HoldsAllOf, MayRaise, looked, raised, rung, took}
+use Rattle.pay_words.specs.Memory.{HasAll, HasOwn, IsInMemory, SeatMemory, Tells, seat_memory}
+use Rattle.pay_words.specs.Holding.{HoldsAllOf}
+use Rattle.pay_words.specs.Sound.{IsSound}
+use Rattle.pay_words.specs.Paying.{MayRaise, looked, raised}
+use Rattle.pay_words.specs.Ringing.{rung, took}
+use Rattle.pay_words.specs.Views.{BoardView, Place, SeatView}
 use Rattle.pay_words.proofs.Rings.{sound_rung, sound_took}
 use Rattle.pay_words.proofs.Splits.{MayHand}
 use Rattle.pay_words.proofs.Joins.{sound_both}

@@ -2,7 +2,7 @@
 use Rattle.pay_words.proofs.Tables.{tabled_at}
 use Rattle.pay_words.specs.declared.view.Act.{Act}
 use Rattle.pay_words.specs.Steps.{showing}
-use Rattle.pay_words.specs.Views.{is_marked}
+use Rattle.clear_core.specs.Raised.{is_marked}
 use Rattle.std.proofs.lemmas.Bool.{cond_both}
 use Rattle.pay_words.proofs.Tables.{length-tabled}
 use Rattle.pay_words.proofs.Views.{each_set, each_longer, not_both}
@@ -17,7 +17,9 @@ use Rattle.clear_core.specs.declared.event.Raise.{Raise}
 use Rattle.pay_words.specs.declared.origin.Origin.{Origin}
 use Rattle.pay_words.specs.declared.view.Shown.{Shown}
 use Rattle.pay_words.specs.declared.view.View.{View}
-use Rattle.pay_words.specs.Views.{IsSound, HoldsAllOf, holds, is_of_worker, handed, without}
+use Rattle.pay_words.specs.Holding.{HoldsAllOf, holds, is_of_worker}
+use Rattle.pay_words.specs.Sound.{IsSound}
+use Rattle.pay_words.specs.Seating.{handed, without}
 use Rattle.pay_words.specs.Traces.{raises_of}
 use Rattle.pay_words.specs.BoardRule.{BoardHistory, Leads, Suits, Sits, own_raises}
 use Rattle.pay_words.specs.Bells.{BellLedger, HasBells, taken_of, made_of}

@@ -8,7 +8,7 @@ use native.Mathlib.Decide.{ℕ_discrete, dec_lt}
 use mathlib.Core.Logic.{dite}
 use Rattle.clr_net.specs.Amounts.{IsAtMost}
 use Rattle.clr_net.proofs.Lists.{sum-le, sum_raised}
-use Rattle.pay_words.specs.Views.{tabled}
+use Rattle.pay_words.specs.Tables.{tabled}
 use Rattle.std.proofs.lemmas.Bool.{cond-true, cond-false, ne_eqb}
 
 -- a table of f has what f gives in each place

@@ -15,7 +15,8 @@ use Rattle.pay_words.specs.declared.origin.Origin.{Origin}
 use Rattle.pay_words.specs.declared.view.View.{View}
 use Rattle.pay_words.specs.Words.{word_of}
 use Rattle.pay_words.specs.Traces.{Traces, AreLawfulTraces, ending}
-use Rattle.pay_words.specs.Views.{holds, is_marked}
+use Rattle.clear_core.specs.Raised.{is_marked}
+use Rattle.pay_words.specs.Holding.{holds}
 use Rattle.pay_words.specs.BoardRule.{BoardHistory, Suits, Sits, MeetsRule, own_raises}
 use Rattle.pay_words.specs.Bells.{IsRung}
 use Rattle.clr_net.specs.Net.{debtor_of}

@@ -7,7 +7,9 @@ use Rattle.clr_net.specs.Net.{Net, debtor_of, creditor_of}
 use Rattle.pay_words.specs.declared.origin.Origin.{Origin}
 use Rattle.pay_words.specs.declared.view.View.{View}
 use Rattle.pay_words.specs.Traces.{Traces, ending}
-use Rattle.pay_words.specs.Views.{tabled, is_marked, holds}
+use Rattle.clear_core.specs.Raised.{is_marked}
+use Rattle.pay_words.specs.Tables.{tabled}
+use Rattle.pay_words.specs.Holding.{holds}
 
 -- what no single seat knows of the bells: of each debt what its creditor last saw, whether it is
 -- pending there, whether it owes a ring and the greatest floor of any seat, and of each bank

@@ -13,7 +13,9 @@ use Rattle.pay_words.specs.Words.{word_of}
 use Rattle.pay_words.specs.Traces.{Traces, AreLawfulTraces, Stood, raises_of, ending, start_of}
 use Rattle.pay_words.specs.Traces.{total}
 use Rattle.pay_words.specs.Ends.{AreAfter}
-use Rattle.pay_words.specs.Views.{IsSound, holds, opening}
+use Rattle.pay_words.specs.Holding.{holds}
+use Rattle.pay_words.specs.Sound.{IsSound}
+use Rattle.pay_words.specs.Seating.{opening}
 use Rattle.pay_words.specs.Bells.{IsRung}
 
 -- what no single seat knows: which seat holds each bank, which one is the master, the raises of the

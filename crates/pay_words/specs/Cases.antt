@@ -4,8 +4,9 @@ use Rattle.clr_net.specs.Samples.{ring}
 use Rattle.pay_words.specs.declared.payment.Payment.{Payment}
 use Rattle.pay_words.specs.declared.view.Shown.{Shown}
 use Rattle.pay_words.specs.Words.{unpaid, word_of, payment_of}
-use Rattle.pay_words.specs.Views.{opening, handed, without, rejoined, looked, raised, rung, took}
-use Rattle.pay_words.specs.Views.{look_at, raise_of, ring_of, take_of, a_raise}
+use Rattle.pay_words.specs.Seating.{opening, handed, without, rejoined}
+use Rattle.pay_words.specs.Paying.{looked, raised, look_at, raise_of, a_raise}
+use Rattle.pay_words.specs.Ringing.{rung, took, ring_of, take_of}
 
 -- so many units, with this stamp
 abbrev paid : ℕ → ℕ → Payment

@@ -8,7 +8,7 @@ use Rattle.clear_core.specs.declared.event.Raise.{Raise}
 use Rattle.pay_words.specs.declared.payment.Payment.{Payment}
 use Rattle.pay_words.specs.declared.view.Shown.{Shown}
 use Rattle.pay_words.specs.Belongs.{Belongs}
-use Rattle.pay_words.specs.Views.{tabled}
+use Rattle.pay_words.specs.Tables.{tabled}
 
 -- the payments that a seat shows
 abbrev pub payments_of : Shown → List Payment
@@ -36,7 +36,10 @@ HaveLowStamps raises payments = All (λ r. r.stamp ≤ sum (values payments)) ra
 abbrev pub AreAfter : List Raise → List Raise → Type 0
 AreAfter past raises = All (λ r. All (λ p. p.stamp < r.stamp) past) raises
 
--- all of this, of the payments that a master shows
+-- The payments of a closed board, whose master showed s: none is above the least clearing payment,
+-- or above what its bank would pay where all are paid. The raises of the past and those of the
+-- board, in order, are lawful, replay to the payments, and have low stamps. And bells were taken at
+-- most once for each bank and once for each raise
 pub record Ends (net : Net) (past : List Raise) (s : Shown) (payments : List Payment) : Type 0 where
   pub payments_are : payments ≡ payments_of s
   pub below_least : IsAtMost (values payments) (least net)

@@ -4,7 +4,9 @@ use Rattle.clr_net.specs.Net.{Net}
 use Rattle.clear_core.specs.declared.event.Raise.{Raise}
 use Rattle.pay_words.specs.declared.TheConstants.{MAX_SEATS}
 use Rattle.pay_words.specs.declared.payment.Payment.{Payment}
-use Rattle.pay_words.specs.Views.{BoardView, HoldsAllOf, IsAt, SeatView, handed, opening, without}
+use Rattle.pay_words.specs.Holding.{HoldsAllOf}
+use Rattle.pay_words.specs.Seating.{handed, opening, without}
+use Rattle.pay_words.specs.Views.{BoardView, IsAt, SeatView}
 
 -- a board of the network for so many workers, on which the payments of a past stand, and its master
 pub record AreMade (net : Net) (workers : ℕ) (start : List Payment) (past : List Raise)

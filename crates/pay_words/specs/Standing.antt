@@ -7,7 +7,8 @@ use Rattle.pay_words.specs.declared.payment.Payment.{Payment}
 use Rattle.pay_words.specs.declared.view.View.{View}
 use Rattle.pay_words.specs.Ends.{values}
 use Rattle.pay_words.specs.BoardRule.{MeetsRule}
-use Rattle.pay_words.specs.Views.{BoardView, tabled}
+use Rattle.pay_words.specs.Tables.{tabled}
+use Rattle.pay_words.specs.Views.{BoardView}
 use Rattle.pay_words.specs.Words.{payment_of}
 
 -- the words may stand on the board at some moment: its rule, which holds between any two atomic

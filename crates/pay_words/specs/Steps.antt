@@ -1,4 +1,7 @@
--- What each atomic step on a board changes of a seat's view, and what it tells.
+-- What each atomic step on a board changes of a seat's view, and what it tells. What a step tells is
+-- said of the step, whose `word` is the place of the word, of the seat before it, of the number that
+-- was found or stored, and of the seat after it. A seat of a table is its view and its slots, of
+-- which a board has none.
 use Rattle.std.specs.Prelude.{◌≡◌, ℕ, ◌+◌, ◌≤◌, ◌==◌, if◌then◌else◌, true, [], false, length}
 use Rattle.std.specs.Prelude.{slice_index}
 use Rattle.atomic_table.specs.Table.{Me, Step}
@@ -8,9 +11,12 @@ use Rattle.pay_words.specs.declared.payment.Payment.{Payment}
 use Rattle.pay_words.specs.declared.view.Shown.{Shown}
 use Rattle.pay_words.specs.declared.view.View.{View}
 use Rattle.pay_words.specs.Words.{payment_of}
-use Rattle.pay_words.specs.Views.{IsSound, IsCalm, HasSeenFloor, HasSeenAll, HoldsAll, OwesNoRing}
-use Rattle.pay_words.specs.Views.{is_marked, holds, looked, raised, rung, took, handed, without}
-use Rattle.pay_words.specs.Views.{rejoined}
+use Rattle.clear_core.specs.Raised.{is_marked}
+use Rattle.pay_words.specs.Holding.{HoldsAll, holds}
+use Rattle.pay_words.specs.Sound.{IsSound}
+use Rattle.pay_words.specs.Seating.{handed, without, rejoined}
+use Rattle.pay_words.specs.Paying.{looked, raised}
+use Rattle.pay_words.specs.Ringing.{IsCalm, HasSeenFloor, HasSeenAll, OwesNoRing, rung, took}
 
 -- a view that shows something else
 abbrev pub showing : View → Shown → View

@@ -9,7 +9,7 @@ use Rattle.clear_core.specs.History.{raised_before}
 use Rattle.clear_core.specs.declared.event.Raise.{Raise}
 use Rattle.pay_words.specs.declared.payment.Payment.{Payment}
 use Rattle.pay_words.specs.Words.{unpaid}
-use Rattle.pay_words.specs.Views.{tabled}
+use Rattle.pay_words.specs.Tables.{tabled}
 
 -- the raises of the debt x
 abbrev pub raises_of : ℕ → List Raise → List Raise

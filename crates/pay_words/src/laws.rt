@@ -1,4 +1,6 @@
-//! What callers of a board may rely on. A law has nothing to run; its `ensures` is proved.
+//! What callers of a board may rely on: what it may begin with, what holds at each moment, which
+//! banks a seat holds, what comes back with a seat, and what a ring and a take change. A law has
+//! nothing to run; its `ensures` is proved.
 ghost use Rattle.clear_core.specs.Clearing.{pay};
 ghost use Rattle.clear_core.specs.History.{IsTraced, Stands, ordered, replayed};
 ghost use Rattle.clear_core.specs.declared.event.Raise.{Raise};
@@ -9,9 +11,12 @@ ghost use Rattle.pay_words.specs.Ends.{HaveLowStamps, payments_of, values};
 ghost use Rattle.pay_words.specs.Events.{AreOfEvents, IsOfEvents};
 ghost use Rattle.pay_words.specs.Standing.{KeepsStampsLow, MayStand, StaysBelowLeast, payments_in};
 ghost use Rattle.pay_words.specs.Traces.{start_of};
-ghost use Rattle.pay_words.specs.Views.{BoardView, HoldsAll, HoldsAllOf, IsOver, handed, holds};
-ghost use Rattle.pay_words.specs.Views.{is_marked};
-ghost use Rattle.pay_words.specs.Views.{is_of_worker, rejoined, rung, took, without};
+ghost use Rattle.clear_core.specs.Raised.{is_marked};
+ghost use Rattle.pay_words.specs.Holding.{HoldsAll, HoldsAllOf, holds, is_of_worker};
+ghost use Rattle.pay_words.specs.Sound.{IsOver};
+ghost use Rattle.pay_words.specs.Seating.{handed, rejoined, without};
+ghost use Rattle.pay_words.specs.Ringing.{rung, took};
+ghost use Rattle.pay_words.specs.Views.{BoardView};
 ghost use Rattle.pay_words.specs.Words.{unpaid};
 ghost use Rattle.pay_words.specs.declared.payment.Payment.{Payment};
 ghost use Rattle.pay_words.specs.declared.view.Shown.{Shown};

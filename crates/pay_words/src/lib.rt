@@ -13,13 +13,20 @@
 //! grow with the network, and no memory. Making a board costs a walk over all debts, and for each
 //! worker a list of their values, four bytes each. Closing it costs one walk.
 //!
+//! `board.rt` makes a board and closes it, `seating.rt` hands seats out and takes them back, and
+//! `calls.rt` looks, raises, rings and takes. What each call changes of what a seat shows stands in
+//! `specs/Seating.antt`, `specs/Paying.antt` and `specs/Ringing.antt`. Beneath them lies the rule of
+//! a board (`rule.rt`), which holds between any two atomic steps: `specs/BoardRule.antt` for the
+//! payments and `specs/Bells.antt` for the bells. What a caller may rely on is in [`laws`].
+//!
 //! Contracts and proofs call what they see by these words:
 //!
 //! - `Place`: a table of words; `BoardView`: a board; `SeatView`: a seat, with what it shows
 //!   (`Shown`).
 //! - `View`: what the rule of the table knows of a seat: what it shows, and whether it lives still.
-//! - `Origin`: what a board is made for, its network and its past; a `Founding` has an origin.
-//! - `Chosen`: a worker whose banks go to a new seat.
+//! - `Origin`: what a board is made for, its network and its past.
+//! - `Founding` and `Chosen`: a type that stands for an origin, or for a worker whose banks go to a
+//!   new seat; the proof of a call picks which.
 //! - `BoardHistory`: what no single seat knows of banks and raises.
 //! - `BellLedger`: what no single seat knows of bells.
 //! - `SeatMemory`: the lists of payments that a seat has in memory.
@@ -27,6 +34,7 @@
 #![tactic(auto)]
 
 mod board;
+mod calls;
 pub mod laws;
 mod opening;
 mod origin;
@@ -35,6 +43,7 @@ mod payment;
 mod record;
 mod rule;
 mod seat;
+mod seating;
 mod view;
 
 /// The most seats that a master hands out: the greatest number of 32 bits. A run hands out one to

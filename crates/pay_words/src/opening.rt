@@ -1,7 +1,7 @@
 //! What a board begins with.
 ghost use Rattle.clr_net.specs.Net.{debt_numbers, debtor_of};
 ghost use Rattle.clr_net.specs.declared.TheConstants.{MAX_BANKS, MAX_DEBTS};
-ghost use Rattle.pay_words.specs.Views.{greatest};
+ghost use Rattle.pay_words.specs.Seating.{greatest};
 ghost use Rattle.pay_words.specs.Words.{word_of};
 ghost use Rattle.std.specs.Prelude.{◌≡◌, ◌+◌, ◌^◌, ◌<◌, ◌≤◌, ◌∷◌, ◌++◌, All, IfOk, length, map};
 ghost use Rattle.std.specs.Prelude.{replicate};

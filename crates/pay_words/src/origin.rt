@@ -1,4 +1,8 @@
 //! What a board is made for, as its rule knows it.
+//!
+//! The rule of a table may read a key, which is fixed when the table is made. That of a board reads
+//! the network and the past, which lie in memory elsewhere and are not copied. So its key is a seat
+//! of another table, which is about nothing: such a seat takes no bytes, and its view is the origin.
 ghost use Rattle.std.specs.Prelude.{◌≡◌, [], IfOk};
 
 use atomic_table::{Seat, Split, Table, TableRule};
@@ -14,7 +18,7 @@ pub struct Origin {
     pub past: LinkedList<Raise>,
 }
 
-/// An origin of one's choice.
+/// A type that stands for an origin, which the proof of a call picks.
 pub(crate) trait Founding {
     ghost use Rattle.pay_words.specs.declared.origin.Origin.{Origin};
 
@@ -38,6 +42,7 @@ impl TableRule<(), Origin, u64> for AnyOrigin {
     ghost first = { λ _. no_origin };
 }
 
+// The seat of that table that is cut in two: one part has the picked origin for its view.
 struct Chooses<C> {
     of: PhantomData<C>,
 }

@@ -1,3 +1,4 @@
+//! A payment, and the word in which it stands.
 ghost use Rattle.pay_words.specs.Words.{payment_of, word_of};
 ghost use Rattle.std.specs.Prelude.{◌≡◌, ◌<◌, ◌^◌};
 

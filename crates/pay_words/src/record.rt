@@ -1,3 +1,4 @@
+//! The record of a board that was sealed.
 ghost use Rattle.std.specs.Prelude.{◌≡◌};
 
 use clear_core::{Journal, Raise};

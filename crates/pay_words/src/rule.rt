@@ -4,7 +4,8 @@ use crate::view::View;
 use atomic_table::{Join, Play, Seat, Split, TableRule};
 use std::marker::{Brand, PhantomData};
 
-/// What holds of the words and of all seats between any two steps.
+/// What holds of the words and of all seats between any two steps. The view of the table's key is
+/// the origin.
 pub struct Clearing;
 
 impl TableRule<(), View, Seat<(), Origin>> for Clearing {
@@ -69,7 +70,7 @@ impl Play<(), View> for Take {
     ghost then = { Takes };
 }
 
-/// A worker whose banks go to a new seat.
+/// A type that stands for a worker whose banks go to a new seat, which the proof of a call picks.
 pub(crate) trait Chosen {
     ghost use Rattle.std.specs.Prelude.{ℕ};
 

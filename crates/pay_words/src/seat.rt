@@ -1,8 +1,10 @@
+//! A seat: what a thread has in its hands to work on a board.
 ghost use Rattle.clear_core.specs.Clearing.{least};
 ghost use Rattle.clr_net.specs.Amounts.{IsAtMost};
 ghost use Rattle.clr_net.specs.Net.{debtor_of};
 ghost use Rattle.clr_net.specs.declared.TheConstants.{MAX_OWED};
-ghost use Rattle.pay_words.specs.Views.{IsOver, PaysWithin, holds};
+ghost use Rattle.pay_words.specs.Holding.{holds};
+ghost use Rattle.pay_words.specs.Sound.{IsOver, PaysWithin};
 ghost use Rattle.std.specs.Prelude.{◌≡◌, ◌<◌, ◌≤◌, length, slice_index, true};
 
 use crate::paid::Paid;
@@ -23,15 +25,19 @@ pub struct PaySeat {
     // debtor of each debt.
     pub(crate) lists: Vec<Paid>,
     pub(crate) debtors: Vec<u32>,
+    // The greatest stamp that it saw or gave.
     pub(crate) clock: u64,
+    // How many seats it handed out.
     pub(crate) seats: u64,
+    // How many workers the board has, and the number of its own. The master's means nothing.
     pub(crate) workers: u32,
     pub(crate) worker: u32,
 }
 
+// Of a seat of a table, `me` is its view and its slots, of which a board has none.
 impl Model for PaySeat {
     ghost use Rattle.std.specs.Prelude.{◌≡◌, []};
-    ghost use Rattle.pay_words.specs.Seats.{IsInMemory, seat_memory};
+    ghost use Rattle.pay_words.specs.Memory.{IsInMemory, seat_memory};
     ghost use Rattle.pay_words.specs.Views.{SeatView};
 
     ghost Value = { SeatView };

@@ -6,7 +6,7 @@ use Rattle.clr_net.specs.Lines.{line}
 use Rattle.clear_core.specs.declared.event.Raise.{Raise}
 use Rattle.clear_report.specs.Text.{payments_text}
 use Rattle.clear_report.specs.Words.{empty_line}
-use Rattle.clear_top.specs.Meaning.{clear_text}
+use Rattle.clear_top.specs.Reports.{clear_text}
 use Rattle.clear_top.specs.Outcome.{with_journal}
 use Rattle.clear_words.specs.declared.show.Show.TheVariants as show
 use Rattle.raise_journal.specs.Texts.{journal_header, raise_line, rounds_line}

@@ -2,7 +2,7 @@
 use Rattle.std.proofs.Common.{◌<◌, ◌≡◌, [], IfOk, length, refl, sym, ◌∙◌, subst}
 use Rattle.clear_core.specs.Clearing.{least}
 use Rattle.settle.specs.Runs.{IsSettled}
-use Rattle.clear_top.specs.Meaning.{Rescues}
+use Rattle.clear_top.specs.Runs.{Rescues}
 use Rattle.pay_words.proofs.Pasts.{belongs_at_first}
 use Rattle.clear_top.proofs.saving.save.Goals as goal
 

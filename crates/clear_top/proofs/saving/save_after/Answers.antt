@@ -5,7 +5,7 @@ use Rattle.pay_words.specs.Traces.{start_of}
 use Rattle.rescue.proofs.MoreCash.{belongs_added}
 use Rattle.rescue.specs.Rescue.{added}
 use Rattle.settle.specs.Runs.{CanGoOn, IsSettled}
-use Rattle.clear_top.specs.Meaning.{IsRun}
+use Rattle.clear_top.specs.Runs.{IsRun}
 use Rattle.clear_stress.proofs.Places.{least_places}
 use Rattle.clear_top.proofs.Runs.{run_of}
 use Rattle.clear_top.proofs.saving.save_after.Goals as goal

@@ -3,7 +3,7 @@ use Rattle.std.specs.Prelude.{slice_index_or}
 use Rattle.std.proofs.lemmas.List.{take_all, map_more}
 use Rattle.pay_words.specs.declared.payment.Payment.{Payment}
 use Rattle.pay_words.specs.Words.{unpaid}
-use Rattle.pay_words.specs.Views.{greatest}
+use Rattle.pay_words.specs.Seating.{greatest}
 use Rattle.pay_words.proofs.Openings.{greatest_more}
 use Rattle.pay_words.proofs.opening.greatest_stamp.Goals as goal
 

@@ -1,5 +1,5 @@
 use Rattle.std.proofs.Common.{◌≡◌, map, take}
-use Rattle.pay_words.specs.Views.{greatest}
+use Rattle.pay_words.specs.Seating.{greatest}
 use Rattle.pay_words.proofs.opening.greatest_stamp.Given as goal
 
 abbrev pub invariant-loop-payment : goal.invariant-loop-payment

@@ -2,7 +2,8 @@ use Rattle.std.proofs.Common.{◌≡◌, ◌+◌, ◌<◌, ◌≢◌, length, ap
 use Rattle.std.specs.Slots.{slots_items}
 use Rattle.pay_words.proofs.Views.{got}
 use Rattle.pay_words.specs.Ends.{Ends}
-use Rattle.pay_words.specs.Views.{BoardView, HoldsAll, SeatView}
+use Rattle.pay_words.specs.Holding.{HoldsAll}
+use Rattle.pay_words.specs.Views.{BoardView, SeatView}
 use Rattle.pay_words.specs.Words.{unpaid, payment_of}
 use Rattle.pay_words.proofs.Ends.{closes, copied}
 use Rattle.pay_words.proofs.Seats.{net_within}

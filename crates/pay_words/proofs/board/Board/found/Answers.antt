@@ -4,7 +4,7 @@ use Rattle.clr_net.specs.Net.{Net}
 use Rattle.pay_words.specs.declared.origin.Origin.{Origin}
 use Rattle.pay_words.specs.declared.view.View.{View}
 use Rattle.pay_words.specs.BoardRule.{MeetsRule, opening_view}
-use Rattle.pay_words.specs.Seats.{IsInMemory, IsLaidOut, seat_memory}
+use Rattle.pay_words.specs.Memory.{IsInMemory, IsLaidOut, seat_memory}
 use Rattle.pay_words.specs.Words.{word_of}
 use Rattle.pay_words.proofs.Openings.{opening_words, opens_past, start_fits, start_values_fit, kept_opening}
 use Rattle.pay_words.proofs.Pasts.{start_over}

@@ -2,7 +2,7 @@ use Rattle.std.proofs.Common.{◌≡◌, ℕ, ◌+◌, ◌<◌, ◌∙◌, List,
 use Rattle.std.proofs.lemmas.List.{get_or_read}
 use Rattle.atomic_table.specs.Table.{Me}
 use Rattle.pay_words.specs.declared.view.View.{View}
-use Rattle.pay_words.specs.Seats.{IsInMemory, seat_memory}
+use Rattle.pay_words.specs.Memory.{IsInMemory, seat_memory}
 use Rattle.pay_words.specs.Steps.{part_of, rest_of}
 use Rattle.pay_words.specs.Views.{BoardView, SeatView}
 use Rattle.pay_words.proofs.Rolls.{rolls}

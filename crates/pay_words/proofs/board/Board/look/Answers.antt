@@ -2,8 +2,9 @@ use Rattle.std.proofs.Common.{◌≡◌, true, ◌<◌, ◌∙◌, length, ap, r
 use Rattle.clr_net.specs.Net.{creditor_of}
 use Rattle.atomic_table.specs.Table.{Me}
 use Rattle.pay_words.specs.declared.view.View.{View}
-use Rattle.pay_words.specs.Seats.{IsInMemory, seat_memory}
-use Rattle.pay_words.specs.Views.{SeatView, holds}
+use Rattle.pay_words.specs.Memory.{IsInMemory, seat_memory}
+use Rattle.pay_words.specs.Holding.{holds}
+use Rattle.pay_words.specs.Views.{SeatView}
 use Rattle.clr_net.specs.Net.{Net}
 use Rattle.pay_words.proofs.Looks.{looks}
 use Rattle.pay_words.proofs.Seats.{kept_look, net_within}

@@ -2,8 +2,9 @@ use Rattle.std.proofs.Common.{◌≡◌, ◌∙◌, true, ap, sym, subst, rules,
 use Rattle.atomic_table.specs.Table.{Me}
 use Rattle.pay_words.specs.declared.view.View.{View}
 use Rattle.pay_words.specs.Steps.{TakeTells, after_take}
-use Rattle.pay_words.specs.Seats.{IsInMemory, seat_memory}
-use Rattle.pay_words.specs.Views.{SeatView, holds}
+use Rattle.pay_words.specs.Memory.{IsInMemory, seat_memory}
+use Rattle.pay_words.specs.Holding.{holds}
+use Rattle.pay_words.specs.Views.{SeatView}
 use Rattle.pay_words.proofs.Rings.{takes}
 use Rattle.pay_words.proofs.Places.{held_in_range}
 use Rattle.clr_net.specs.Net.{Net}

@@ -5,8 +5,9 @@ use Rattle.clr_net.specs.declared.TheConstants.{MAX_CLAIM}
 use Rattle.pay_words.specs.declared.payment.TheConstants.{STAMP}
 use Rattle.pay_words.specs.declared.view.View.{View}
 use Rattle.pay_words.specs.Steps.{showing}
-use Rattle.pay_words.specs.Seats.{IsInMemory, seat_memory}
-use Rattle.pay_words.specs.Views.{MayRaise, SeatView, raised}
+use Rattle.pay_words.specs.Memory.{IsInMemory, seat_memory}
+use Rattle.pay_words.specs.Paying.{MayRaise, raised}
+use Rattle.pay_words.specs.Views.{SeatView}
 use Rattle.pay_words.proofs.Seats.{clock_in_limit, kept_raise, may_within, net_within, own_there}
 use Rattle.pay_words.proofs.Raises.{raises}
 use Rattle.pay_words.proofs.board.Board.raise.Goals as goal

@@ -1,6 +1,7 @@
 use Rattle.std.proofs.Common.{◌≡◌, true, sym, subst, rules, arith}
 use Rattle.pay_words.specs.Steps.{TakeTells}
-use Rattle.pay_words.specs.Views.{SeatView, holds}
+use Rattle.pay_words.specs.Holding.{holds}
+use Rattle.pay_words.specs.Views.{SeatView}
 use Rattle.pay_words.proofs.Rings.{glances}
 use Rattle.pay_words.proofs.Places.{held_in_range}
 use Rattle.clr_net.specs.Net.{Net}

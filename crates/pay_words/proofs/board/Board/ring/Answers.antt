@@ -1,8 +1,9 @@
 use Rattle.std.proofs.Common.{◌∙◌, ap, sym, subst, rules, arith}
 use Rattle.atomic_table.specs.Table.{Me}
 use Rattle.pay_words.specs.declared.view.View.{View}
-use Rattle.pay_words.specs.Seats.{IsInMemory, seat_memory}
-use Rattle.pay_words.specs.Views.{OwesRing, SeatView, rung}
+use Rattle.pay_words.specs.Memory.{IsInMemory, seat_memory}
+use Rattle.pay_words.specs.Ringing.{OwesRing, rung}
+use Rattle.pay_words.specs.Views.{SeatView}
 use Rattle.clr_net.specs.Net.{Net}
 use Rattle.std.proofs.Common.{length}
 use Rattle.pay_words.proofs.Rings.{bank_of_ring, rings}

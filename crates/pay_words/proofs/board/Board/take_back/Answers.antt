@@ -1,8 +1,9 @@
 use Rattle.std.proofs.Common.{◌∙◌, set, ap, sym, subst, rules, arith}
 use Rattle.atomic_table.specs.Table.{Me}
 use Rattle.pay_words.specs.declared.view.View.{View}
-use Rattle.pay_words.specs.Seats.{IsInMemory, seat_memory}
-use Rattle.pay_words.specs.Views.{OwesNoRing, SeatView}
+use Rattle.pay_words.specs.Memory.{IsInMemory, seat_memory}
+use Rattle.pay_words.specs.Ringing.{OwesNoRing}
+use Rattle.pay_words.specs.Views.{SeatView}
 use Rattle.pay_words.proofs.Joins.{joins}
 use Rattle.pay_words.proofs.Seats.{kept_both, list_there, net_within, same_workers}
 use Rattle.pay_words.proofs.board.Board.take_back.Goals as goal

@@ -1,5 +1,6 @@
 use Rattle.std.proofs.Common.{subst}
-use Rattle.pay_words.specs.Views.{PaysWithin, SeatView}
+use Rattle.pay_words.specs.Sound.{PaysWithin}
+use Rattle.pay_words.specs.Views.{SeatView}
 use Rattle.pay_words.proofs.Seats.{clock_in_limit}
 use Rattle.pay_words.proofs.seat.PaySeat.clock.Goals as goal
 

@@ -1,10 +1,12 @@
--- How a seat and a board keep what contracts see of them.
+-- What a seat and a board have in memory, beside what contracts see of them.
 use Rattle.std.specs.Prelude.{◌≡◌, ℕ, ◌+◌, ◌%◌, ◌<◌, Bool, true, false, List, [], length, map}
 use Rattle.std.specs.Prelude.{slice_index, slice_index_or}
 use Rattle.clr_net.specs.Limits.{IsNetwork}
 use Rattle.clr_net.specs.Net.{Net, debtor_of, debt_numbers}
 use Rattle.pay_words.specs.declared.view.View.{View}
-use Rattle.pay_words.specs.Views.{IsSound, is_marked, is_of_worker}
+use Rattle.clear_core.specs.Raised.{is_marked}
+use Rattle.pay_words.specs.Holding.{is_of_worker}
+use Rattle.pay_words.specs.Sound.{IsSound}
 
 -- What a seat has in memory of the values that are paid: the seat of a worker a list of its own,
 -- and the master a list for each worker, and the debtor of each debt
