@@ -6,6 +6,7 @@ pub mod Views
 pub mod BankSets
 pub mod Called
 pub mod Visits
+pub mod Ready
 pub mod Sweeps
 pub mod Grows
 pub mod Staff
