@@ -8,6 +8,7 @@ pub mod Rest
 pub mod BankSets
 pub mod Called
 pub mod Visits
+pub mod Ready
 pub mod Sweeps
 pub mod Grows
 pub mod Staff

@@ -1,16 +1,23 @@
 //! What the program does not call, for whoever calls the crate: a worker that is made with an
-//! office of its own, and one that leaves no office behind. The program keeps the office, which it
-//! makes once; it calls [`Worker::with`] and [`Worker::leave`].
+//! office of its own, one that leaves no office behind, and its rounds over all its banks or over
+//! those that are called. The program keeps the office, which it makes once, and says which banks
+//! are called anew; it calls [`Worker::with`], [`Worker::round_over`] and [`Worker::leave`].
+ghost use Rattle.bank_worker.specs.Called.{AreCalledOrAtRest, CallsOthers, KeepsOthers};
+ghost use Rattle.bank_worker.specs.Grows.{MakesRound};
+ghost use Rattle.bank_worker.specs.Ready.{IsReadyWorker};
 ghost use Rattle.bank_worker.specs.Views.{desks_held};
 ghost use Rattle.bank_worker.specs.Visits.{IsAllCalm, MayRest};
 ghost use Rattle.pay_words.specs.Views.{OwesNoRing, holds, is_of_worker};
 ghost use Rattle.std.specs.Prelude.{◌≡◌, ◌<◌, ◌≤◌, ℕ, [], IfErr, IfOk, Some, codes, false, length};
 
+use crate::bank_set::BankSet;
 use crate::office::Office;
+use crate::visit::Visit;
 use crate::worker::Worker;
 use clear_core::Journal;
+use clr_edge::Gate;
 use clr_net::{Mem, Network};
-use pay_words::PaySeat;
+use pay_words::{Board, PaySeat};
 use std::alloc::Global;
 use std::fmt;
 
@@ -61,6 +68,46 @@ impl Worker {
             Ok(office) => Ok(Worker::with(alloc, office, seat)),
             Err(Mem) => Err(SeatBack { seat }),
         }
+    }
+
+    /// Goes over the desks in order, so many times: takes each bell that is up, and visits that
+    /// desk. Ends early after a sweep that found no bell up. Answers the units of all visits, or
+    /// `Mem` at the first visit that answers so, and then takes no bell and makes no visit.
+    ///
+    /// In each sweep all banks are called anew, since another worker may ring at any time.
+    pub fn round<G: Gate>(&mut self, board: &Board, sweeps: u32, gate: &G) -> Visit
+        requires ready { IsReadyWorker board.now self.old }
+        requires sweeps { (1 ≤ sweeps) × (sweeps ≤ 1000) }
+        ensures { MakesRound sweeps result self.old self.new }
+    {
+        // That the banks of the desks are among all banks is known of the office, read here.
+        let _ = &self.office;
+        self.round_over(
+            board,
+            sweeps,
+            gate,
+            &mut BankSet::all(),
+            Some(&BankSet::all()),
+        )
+    }
+
+    /// Makes a round as [`round`](Worker::round) does, and looks at the bells of those banks alone
+    /// that are called, as [`round_over`](Worker::round_over) does with no bank called anew.
+    pub fn round_called<G: Gate>(
+        &mut self,
+        board: &Board,
+        sweeps: u32,
+        gate: &G,
+        called: &mut BankSet,
+    ) -> Visit
+        requires ready { IsReadyWorker board.now self.old }
+        requires sweeps { (1 ≤ sweeps) × (sweeps ≤ 1000) }
+        requires called { AreCalledOrAtRest called.old self.old.seat.shows self.old.desks }
+        ensures round { MakesRound sweeps result self.old self.new }
+        ensures keeps_others { KeepsOthers self.old.seat.shows called.old called.new }
+        ensures rung { CallsOthers self.old self.new called.new }
+    {
+        self.round_over(board, sweeps, gate, called, None)
     }
 
     /// The seat, and the journal of its raises. Takes no memory.

@@ -2,10 +2,11 @@
 ghost use Rattle.bank_worker.specs.BankSets.{is_in};
 ghost use Rattle.bank_worker.specs.Called.{AreCalledOrAtRest, CallsOthers, KeepsOthers, StayIn};
 ghost use Rattle.bank_worker.specs.Grows.{MakesRound};
+ghost use Rattle.bank_worker.specs.Ready.{IsReadyWorker};
 ghost use Rattle.bank_worker.specs.Views.{desk_at};
 ghost use Rattle.bank_worker.specs.Visits.{IsAllCalm, MayRest, WhenRaised};
 ghost use Rattle.clr_net.specs.declared.TheConstants.{MAX_BANKS, MAX_OWED};
-ghost use Rattle.pay_words.specs.Views.{IsAt, OwesNoRing};
+ghost use Rattle.pay_words.specs.Views.{IsAt};
 ghost use Rattle.std.specs.Prelude.{◌≡◌, ◌+◌, ◌*◌, ◌^◌, ◌<◌, ◌≤◌, ℕ, IfNone, IfSome, false, length};
 ghost use Rattle.std.specs.Prelude.{true};
 
@@ -17,57 +18,16 @@ use clr_net::{BankId, MAX_BANKS};
 use pay_words::Board;
 
 impl Worker {
-    /// Goes over the desks in order, so many times: takes each bell that is up, and visits that
-    /// desk. Ends early after a sweep that found no bell up. Answers the units of all visits, or
-    /// `Mem` at the first visit that answers so, and then takes no bell and makes no visit.
+    /// Makes a round over the called banks of the worker: so many sweeps over their desks, in order,
+    /// each of which takes each bell that is up, and visits that desk. Ends early after a sweep that
+    /// found no bell up. Answers the units of all visits, or `Mem` at the first visit that answers
+    /// so, and then takes no bell and makes no visit.
     ///
-    /// In each sweep all banks are called anew, since another worker may ring at any time.
-    pub fn round<G: Gate>(&mut self, board: &Board, sweeps: u32, gate: &G) -> Visit
-        requires seat { IsAt board.now self.old.seat }
-        requires sweeps { (1 ≤ sweeps) × (sweeps ≤ 1000) }
-        requires visits { self.old.visits ≤ 2 ^ 62 }
-        requires idle { OwesNoRing self.old.seat.shows × IsAllCalm self.old.seat.shows
-            × MayRest self.old.seat.shows self.old.desks }
-        ensures { MakesRound sweeps result self.old self.new }
-    {
-        // That the banks of the desks are among all banks is known of the office, read here.
-        let _ = &self.office;
-        self.go_round(
-            board,
-            sweeps,
-            gate,
-            &mut BankSet::all(),
-            Some(&BankSet::all()),
-        )
-    }
-
-    /// Makes a round as [`round`](Worker::round) does, and looks at the bells of those banks alone
-    /// that are called. A bank that was never visited, or that may not have seen what was paid to
-    /// it before the seat was handed out, is called. Each bank that is rung is called, of whichever
-    /// worker; a bank of the seat is so no more once its bell was found down or was taken.
-    pub fn round_called<G: Gate>(
-        &mut self,
-        board: &Board,
-        sweeps: u32,
-        gate: &G,
-        called: &mut BankSet,
-    ) -> Visit
-        requires seat { IsAt board.now self.old.seat }
-        requires sweeps { (1 ≤ sweeps) × (sweeps ≤ 1000) }
-        requires visits { self.old.visits ≤ 2 ^ 62 }
-        requires idle { OwesNoRing self.old.seat.shows × IsAllCalm self.old.seat.shows
-            × MayRest self.old.seat.shows self.old.desks }
-        requires called { AreCalledOrAtRest called.old self.old.seat.shows self.old.desks }
-        ensures round { MakesRound sweeps result self.old self.new }
-        ensures keeps_others { KeepsOthers self.old.seat.shows called.old called.new }
-        ensures rung { CallsOthers self.old self.new called.new }
-    {
-        self.go_round(board, sweeps, gate, called, None)
-    }
-
-    // Makes a round: sweeps over the desks whose banks are called, and before each sweep calls some
-    // banks anew, or none.
-    fn go_round<G: Gate>(
+    /// Before each sweep the banks of `anew`, if any, are called anew: all of them where other
+    /// workers may ring meanwhile. A bank that was never visited, or that may not have seen what was
+    /// paid to it before the seat was handed out, is called. Each bank that is rung is called, of
+    /// whichever worker; a bank of the seat is so no more once its bell was found down or was taken.
+    pub fn round_over<G: Gate>(
         &mut self,
         board: &Board,
         sweeps: u32,
@@ -75,11 +35,8 @@ impl Worker {
         called: &mut BankSet,
         anew: Option<&BankSet>,
     ) -> Visit
-        requires seat { IsAt board.now self.old.seat }
+        requires ready { IsReadyWorker board.now self.old }
         requires sweeps { (1 ≤ sweeps) × (sweeps ≤ 1000) }
-        requires visits { self.old.visits ≤ 2 ^ 62 }
-        requires idle { IsAllCalm self.old.seat.shows
-            × MayRest self.old.seat.shows self.old.desks }
         requires called { AreCalledOrAtRest called.old self.old.seat.shows self.old.desks }
         ensures round { MakesRound sweeps result self.old self.new }
         ensures keeps_others { KeepsOthers self.old.seat.shows called.old called.new }

@@ -4,6 +4,7 @@ ghost use Rattle.bank_worker.specs.Grows.{Grows};
 ghost use Rattle.bank_worker.specs.Offices.{IsOfficeFor};
 ghost use Rattle.bank_worker.specs.Views.{banks_held, desk_at, desks_held};
 ghost use Rattle.bank_worker.specs.Visits.{IsDown, IsSameWorker, IsVisited, WhenMem, WhenRaised};
+ghost use Rattle.clr_net.specs.Limits.{IsNetwork};
 ghost use Rattle.clr_net.specs.declared.TheConstants.{MAX_BANKS, MAX_OWED};
 ghost use Rattle.pay_words.specs.Views.{IsAt, OwesNoRing, holds, took};
 ghost use Rattle.std.specs.Prelude.{◌≡◌, ◌+◌, ◌^◌, ◌<◌, ◌≤◌, ℕ, [], drop, false, if◌then◌else◌};
@@ -79,6 +80,7 @@ impl Worker {
         ensures desks { result ≡ length self.now.desks }
         ensures held { self.now.desks ≡ desks_held self.now.seat.shows }
         ensures in_limit { result ≤ MAX_BANKS }
+        ensures network { IsNetwork self.now.seat.shows.net }
         ensures no_rings { OwesNoRing self.now.seat.shows }
     {
         self.office.desks().len()

@@ -12,10 +12,11 @@ use Rattle.pay_words.proofs.Handing.{holds_of_all, holds_of_others}
 use Rattle.pay_words.proofs.Tables.{tabled_at, length-tabled}
 use Rattle.bank_worker.specs.Called.{IsAtRest}
 use Rattle.bank_worker.specs.Views.{Divides, desk_at, desks_held}
+use Rattle.bank_worker.specs.Ready.{IsReadyWorker}
 use Rattle.bank_worker.proofs.Manned.{desk_is}
 use Rattle.settle.specs.Between.{IsBetween, opened_worker, opened_workers, without_first}
 use Rattle.settle.specs.Calls.{AllCalledOrAtRest, AreApart, OthersAreAtRest}
-use Rattle.settle.specs.Rounds.{AreReadyWorkers, IsReadyWorker, no_worker, worker_at}
+use Rattle.settle.specs.Rounds.{AreReadyWorkers, no_worker, worker_at}
 
 -- the master that handed out n seats shows what it showed, but for its banks and seats
 pub record IsRest (n : ℕ) (s t : Shown) : Type 0 where

@@ -6,10 +6,11 @@ use Rattle.pay_words.specs.Views.{BoardView}
 use Rattle.bank_worker.specs.Called.{AreCalledOrAtRest, KeepsOthers}
 use Rattle.bank_worker.specs.Views.{WorkerView}
 use Rattle.settle.specs.Calls.{AreApart}
-use Rattle.settle.specs.Rounds.{AreReadyWorkers, AreRounded, IsReadyWorker, no_worker, worker_at}
+use Rattle.settle.specs.Rounds.{AreReadyWorkers, AreRounded, no_worker, worker_at}
 use Rattle.settle.proofs.Joined.{rounded_append, rounded_one}
 use Rattle.bank_worker.specs.Grows.{MakesRound}
 use Rattle.bank_worker.specs.declared.visit.Visit.TheVariants.{Raised}
+use Rattle.bank_worker.specs.Ready.{IsReadyWorker}
 
 -- the first n workers made their rounds, by so many units, and the others did nothing yet; each bank of these is called, or it is at rest
 pub record TurnTo (sweeps units : ℕ) (olds news : List WorkerView) (n : ℕ) (called : List ℕ) : Type 0 where

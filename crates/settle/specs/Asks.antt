@@ -1,15 +1,16 @@
 -- What a round of all workers and a run ask of their board, its master and their plan, and what a
 -- round leaves.
-use Rattle.std.specs.Prelude.{◌≡◌, ℕ, ◌++◌, List, []}
+use Rattle.std.specs.Prelude.{◌≡◌, ℕ, ◌++◌, true, List, [], length}
+use Rattle.clr_net.specs.Limits.{IsNetwork}
 use Rattle.clr_net.specs.Net.{Net}
 use Rattle.clear_core.specs.declared.event.Raise.{Raise}
 use Rattle.bank_worker.specs.Offices.{OfficeView}
 use Rattle.bank_worker.specs.Views.{WorkerView}
 use Rattle.pay_words.specs.declared.view.Shown.{Shown}
 use Rattle.pay_words.specs.Traces.{start_of}
-use Rattle.pay_words.specs.Views.{BoardView, SeatView, opening}
+use Rattle.pay_words.specs.Views.{BoardView, IsAt, SeatView, opening}
 use Rattle.settle.specs.Bells.{IsIdle}
-use Rattle.settle.specs.Between.{HaveGrownAlike, IsBack, IsBetween, IsRoundOf, noted_in, raised_by_all}
+use Rattle.settle.specs.Between.{AreOfBoard, HaveGrownAlike, IsBack, IsBetween, IsRoundOf, noted_in, raised_by_all}
 use Rattle.settle.specs.Calls.{HaveCalledFrom, OthersAreAtRest}
 use Rattle.settle.specs.Drives.{IsPlan}
 use Rattle.settle.specs.Offices.{AreAllOffices}
@@ -34,6 +35,18 @@ pub record IsRoundOn (board : BoardView) (net : Net) (plan : Plan) (units visits
   pub round : IsRoundOf net plan units visits master.shows after.shows
   pub noted : HaveGrownAlike state.journal.raises state.waiting.items
       (noted_in left.journal.raises left.waiting.items) master.shows.raises after.shows.raises
+
+-- the seats of these workers may be taken back: their master is that of the board, as many workers
+-- as the board has made their round on it, and no office and no raise of an earlier round is left
+pub record MayClose (board : BoardView) (workers : List WorkerView) (master : SeatView)
+    (state : RunState) : Type 0 where
+  pub network : IsNetwork board.net
+  pub at : IsAt board master
+  pub is_the_master : master.shows.master ≡ true
+  pub as_many : length workers ≡ board.table.workers
+  pub of_board : AreOfBoard board workers
+  pub offices : state.offices.items ≡ []
+  pub none_waits : state.waiting.items ≡ []
 
 -- what is left once the seats of these workers were taken back, the last one's first: each bank
 -- stands as its worker left it, what the workers raised is noted, the creditors of it are called, and

@@ -1,19 +1,13 @@
 -- What a round of all workers asks and does.
-use Rattle.std.specs.Prelude.{◌≡◌, ℕ, ◌+◌, ◌*◌, ◌^◌, ◌<◌, ◌≤◌, All, List, [], length, sum_by, slice_index_or}
+use Rattle.std.specs.Prelude.{◌≡◌, ℕ, ◌+◌, ◌*◌, ◌<◌, ◌≤◌, All, List, [], length, sum_by, slice_index_or}
 use Rattle.clr_net.specs.declared.TheConstants.{MAX_OWED}
-use Rattle.pay_words.specs.Views.{BoardView, Place, IsAt, OwesNoRing, opening}
+use Rattle.pay_words.specs.Views.{BoardView, Place, opening}
 use Rattle.bank_worker.specs.Views.{WorkerView, paid_by_all}
 use Rattle.bank_worker.specs.Grows.{IsRounded, MAX_VISITS, VisitsByBells}
-use Rattle.bank_worker.specs.Visits.{IsAllCalm, IsSameWorker, MayRest}
+use Rattle.bank_worker.specs.Ready.{IsReadyWorker}
+use Rattle.bank_worker.specs.Visits.{IsSameWorker}
 
--- the worker may make a round on the board
-pub record IsReadyWorker (board : BoardView) (w : WorkerView) : Type 0 where
-  pub at : IsAt board w.seat
-  pub visits : w.visits ≤ 2 ^ 62
-  pub no_rings : OwesNoRing w.seat.shows
-  pub calm : IsAllCalm w.seat.shows
-  pub rest : MayRest w.seat.shows w.desks
-
+-- each of these workers may make a round on the board
 abbrev pub AreReadyWorkers : BoardView → List WorkerView → Type 0
 AreReadyWorkers board ws = All (IsReadyWorker board) ws
 

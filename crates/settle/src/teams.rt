@@ -1,18 +1,16 @@
-ghost use Rattle.clr_net.specs.Limits.{IsNetwork};
-ghost use Rattle.pay_words.specs.Views.{IsAt};
 ghost use Rattle.pay_words.specs.declared.TheConstants.{MAX_SEATS};
-ghost use Rattle.settle.specs.Asks.{AreTakenBack, IsReady, IsRoundOn};
-ghost use Rattle.settle.specs.Between.{AreOfBoard, IsBetween, opened_workers, without_first};
+ghost use Rattle.settle.specs.Asks.{AreTakenBack, IsReady, IsRoundOn, MayClose};
+ghost use Rattle.settle.specs.Between.{IsBetween, opened_workers, without_first};
 ghost use Rattle.settle.specs.Calls.{OthersAreAtRest};
 ghost use Rattle.settle.specs.Offices.{AreAllOffices};
 ghost use Rattle.std.specs.Prelude.{◌≡◌, ◌+◌, ◌<◌, ◌≤◌, [], IfOk, OnOk};
-ghost use Rattle.std.specs.Prelude.{length, sum_by, true, vec_len};
+ghost use Rattle.std.specs.Prelude.{sum_by};
 
 use crate::noting::note;
 use crate::run::{Run, Way};
 use crate::state::RunState;
-use crate::work::{work_beside, work_in_turn};
-use bank_worker::{Office, Worker};
+use crate::work::{work, work_and_add, work_in_turn};
+use bank_worker::{BankSet, Office, Worker};
 use clr_edge::Gate;
 use clr_net::{BankId, MAX_OWED, Mem, Network};
 use pay_words::{Board, PaySeat};
@@ -54,8 +52,7 @@ fn open_workers<G: Gate>(
 }
 
 // Takes the seats of the workers back, from the last one on, notes their raises, calls the creditors
-// of these, and keeps their offices. No raise of an earlier round waits. Answers how many visits
-// they made.
+// of these, and keeps their offices. Answers how many visits they made.
 fn close_workers<G: Gate>(
     run: &Run<'_, G>,
     master: &mut PaySeat,
@@ -63,12 +60,7 @@ fn close_workers<G: Gate>(
     state: &mut RunState,
     way: Way,
 ) -> Result<u64, Mem>
-    requires offices { state.old.offices.items ≡ [] }
-    requires none_waits { state.old.waiting.items ≡ [] }
-    requires workers { vec_len workers ≡ run.now.board.now.table.workers }
-    requires network { IsNetwork run.now.board.now.net }
-    requires master { IsAt run.now.board.now master.old × (master.old.shows.master ≡ true) }
-    requires of_board { AreOfBoard run.now.board.now workers.items }
+    requires { MayClose run.now.board.now workers.items master.old state.old }
     ensures table { master.new.table ≡ master.old.table }
     ensures net { master.new.shows.net ≡ master.old.shows.net }
     ensures back { OnOk result (AreTakenBack run.now.board.now workers.items master.old.shows
@@ -151,7 +143,20 @@ pub fn round<R: Threads + Sync, G: Gate + Sync>(
         return round_in_turn(run, master, state);
     }
     let mut workers = open_workers(run, master, &mut state.offices)?;
-    let units = work_beside(rt, run, &mut workers, state)?;
+    // No bank need be called any more, since each worker looks at all its banks.
+    state.called = BankSet::none();
+    let made = if state.waiting.is_empty() {
+        work(rt, run, &mut workers)
+    } else {
+        work_and_add(
+            rt,
+            run,
+            &mut workers,
+            &mut state.journal,
+            &mut state.waiting,
+        )
+    };
+    let units = made?;
     let visits = close_workers(run, master, workers, state, Way::Beside)?;
     prove!(master.clock() <= MAX_OWED);
     Ok((units, visits))

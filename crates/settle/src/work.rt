@@ -8,39 +8,15 @@ ghost use Rattle.std.specs.Thread.{IsSync};
 use crate::noting::add_waiting;
 use crate::run::Run;
 use crate::state::RunState;
-use bank_worker::{BankSet, Visit, Worker};
+use bank_worker::{BankSet, Worker};
 use clear_core::Journal;
 use clr_edge::Gate;
-use clr_net::Mem;
+use clr_net::{MAX_BANKS, Mem};
 use std::thread::{Threads, join_mut};
-
-// A round of each of these workers, beside one another, over all their banks. No bank need be called
-// any more then. The raises that wait are added to the journal beside the workers.
-pub(crate) fn work_beside<R: Threads + Sync, G: Gate + Sync>(
-    rt: &R,
-    run: &Run<'_, G>,
-    workers: &mut [Worker],
-    state: &mut RunState,
-) -> Result<u64, Mem>
-    requires some { length workers.old ≡ run.now.engine.now.plan.workers }
-    requires ready { AreReadyWorkers run.now.board.now workers.old }
-    ensures rounded { IfOk result (λ n.
-        AreRounded run.now.engine.now.plan.sweeps n workers.old workers.new) }
-    ensures grown { OnOk result (HasGrownBy state.old.journal.raises state.new.journal.raises
-        (raises_of_all state.old.waiting.items)) }
-    ensures none_waits { OnOk result (state.new.waiting.items ≡ []) }
-    ensures offices { state.new.offices ≡ state.old.offices }
-{
-    state.called = BankSet::none();
-    if state.waiting.is_empty() {
-        return work(rt, run, workers);
-    }
-    work_and_add(rt, run, workers, &mut state.journal, &mut state.waiting)
-}
 
 // A round of each of these workers, beside one another, while this thread adds the raises that wait
 // to the journal.
-fn work_and_add<R: Threads + Sync, G: Gate + Sync>(
+pub(crate) fn work_and_add<R: Threads + Sync, G: Gate + Sync>(
     rt: &R,
     run: &Run<'_, G>,
     workers: &mut [Worker],
@@ -96,17 +72,16 @@ pub(crate) fn work_in_turn<G: Gate>(
     let called = &mut state.called;
     let mut units = 0;
     for worker in workers.iter_mut() {
-        match worker.round_called(run.board, by.plan.sweeps, by.gate, called) {
-            Visit::Raised(more) => units += more,
-            Visit::Mem => return Err(Mem),
-        }
+        let round = worker.round_over(run.board, by.plan.sweeps, by.gate, called, None);
+        units += round.units()?;
     }
     Ok(units)
 }
 
-// A round of each of these workers, down to one: each half of the list has a thread of its own.
+// A round of each of these workers, beside one another and over all their banks, down to one: each
+// half of the list has a thread of its own.
 #[cycle(halves)]
-fn work<R: Threads + Sync, G: Gate + Sync>(
+pub(crate) fn work<R: Threads + Sync, G: Gate + Sync>(
     rt: &R,
     run: &Run<'_, G>,
     workers: &mut [Worker],
@@ -117,11 +92,13 @@ fn work<R: Threads + Sync, G: Gate + Sync>(
         AreRounded run.now.engine.now.plan.sweeps n workers.old workers.new) }
 {
     if workers.len() == 1 {
+        let by = run.engine;
+        let all = BankSet::all();
+        let mut called = BankSet::all();
         let worker = &mut workers[0];
-        return match worker.round(run.board, run.engine.plan.sweeps, run.engine.gate) {
-            Visit::Raised(units) => Ok(units),
-            Visit::Mem => Err(Mem),
-        };
+        prove!(worker.desks() <= MAX_BANKS as usize);
+        let round = worker.round_over(run.board, by.plan.sweeps, by.gate, &mut called, Some(&all));
+        return round.units();
     }
     let (front, back) = workers.split_at_mut(workers.len() / 2);
     let mut low = || -> Result<u64, Mem>
@@ -137,6 +114,5 @@ fn work<R: Threads + Sync, G: Gate + Sync>(
             back.entry.now back.exit.now) }
     { work(rt, run, back) };
     let (a, b) = join_mut(rt, &mut low, &mut high);
-    let units = a? + b?;
-    Ok(units)
+    Ok(a? + b?)
 }

@@ -22,7 +22,7 @@ pub overflow_add-visits : goal.overflow_add-visits
 overflow_add-visits g c =
     let run = c.args.run.now in
     let h = last g (goal.at.overflow_add-visits g c).In-Some in
-    record { fits = omega (arith, h.more, h.left.few, h.own.few_visits, c.visits-visits.ensures, c.loop-worker.invariant.low, c.requires.workers, run.engine.now.limits.few_workers, run.on_board.workers_are, c.args.workers.ok) }
+    record { fits = omega (arith, h.more, h.left.few, h.own.few_visits, c.visits-visits.ensures, c.loop-worker.invariant.low, c.requires.as_many, run.engine.now.limits.few_workers, run.on_board.workers_are) }
 
 pub take_back-requires : goal.take_back-requires
 take_back-requires g c =
@@ -30,8 +30,8 @@ take_back-requires g c =
     let inv = c.loop-worker.invariant in
     let seat = c.leave-seat.ensures.seat in
     record {
-      master = (inv.table ∙ c.requires.master.0.0, inv.back.net_is);
-      is_the_master = inv.back.master ∙ c.requires.master.1;
+      master = (inv.table ∙ c.requires.at.0, inv.back.net_is);
+      is_the_master = inv.back.master ∙ c.requires.is_the_master;
       seat = (ap (λ s. s.table) seat ∙ own.at.0, ap (λ s. s.shows.net) seat ∙ own.at.1);
       not_the_master = ap (λ s. s.shows.master) seat ∙ own.not_the_master;
       rings = rw seat own.no_rings;
@@ -84,7 +84,7 @@ loop-worker-preserved g c =
       back = rw shown back;
       left = h.left;
       offices =
-          let room : n + 1 ≤ k = omega (arith, h.more, inv.left.few, c.requires.workers, c.args.workers.ok) in
+          let room : n + 1 ≤ k = omega (arith, h.more, inv.left.few, c.requires.as_many) in
           let count : k - n ≡ k - (n + 1) + 1 = omega arith in
           let serves = seat_serves net w.seat.shows k n c.leave-seat.result.2 (sym h.own.at.1) (held_by c.args.run.now.board.now n w h.own)
           c.leave-seat.ensures.office (c.leave-seat.ensures.worker ∙ h.own.worker) in

@@ -1,44 +1,82 @@
-use Rattle.std.proofs.Common.{length, ap, ◌∙◌, sym, subst, arith}
-use Rattle.clr_net.specs.Limits.{IsNetwork}
-use Rattle.settle.proofs.Closed.{all_back, round_closed, seats_of_board}
-use Rattle.settle.proofs.Handed.{IsRest, first_rest, length-opened_workers, opened_workers_ready}
+use Rattle.std.proofs.Common.{◌≡◌, List, [], OnOk, length, ap, ◌∙◌, sym, subst, arith, eqb-true}
+use Rattle.std.proofs.lemmas.List.{nil_from_length}
+use Rattle.std.specs.Prelude.{vec_len}
+use Rattle.clear_core.specs.History.{Kept}
+use Rattle.raise_journal.specs.Gathered.{HasGrownBy, raises_of_all}
+use Rattle.raise_journal.proofs.Merged.{grown_none}
+use Rattle.settle.specs.Between.{opened_workers}
+use Rattle.settle.proofs.Closed.{HaveWorked, back_from, may_close, round_closed}
+use Rattle.settle.proofs.Handed.{length-opened_workers, opened_workers_ready}
 use Rattle.settle.proofs.teams.round.Goals as goal
+use Rattle.settle.proofs.teams.round.Given.{Over}
+use Rattle.settle.proofs.teams.round.Goals.{In_ok-units, then-is_empty, else-is_empty}
 
-pub work_beside-requires-clause-some : goal.work_beside-requires-clause-some
-work_beside-requires-clause-some g c κs within =
+pub work-made-requires-clause-some : goal.work-made-requires-clause-some
+work-made-requires-clause-some g c κs within =
     let run = c.args.run.now in
     let w = run.engine.now.plan.workers in
-    ap length c.deref_mut.ensures.value ∙ ap length c.in_ok-workers.ensures.opened ∙ length-opened_workers w run.board.now.table c.args.master.now.shows w
+    let size = ap length c.deref_mut.ensures.value ∙ ap length c.in_ok-workers.ensures.opened ∙ length-opened_workers w run.board.now.table c.args.master.now.shows w in
+    (omega (arith, size, run.engine.now.limits.some_workers), omega (arith, size, run.engine.now.limits.few_workers))
 
-pub work_beside-requires-clause-ready : goal.work_beside-requires-clause-ready
-work_beside-requires-clause-ready g c κs within = rw (c.deref_mut.ensures.value, c.in_ok-workers.ensures.opened)
+pub work-made-requires-clause-ready : goal.work-made-requires-clause-ready
+work-made-requires-clause-ready g c κs within = rw (c.deref_mut.ensures.value, c.in_ok-workers.ensures.opened)
     (let run = c.args.run.now in
     let w = run.engine.now.plan.workers in
     opened_workers_ready run.board.now run.net.now w c.args.master.now.shows w run.on_board.net_is c.requires.ready.between)
 
-pub close_workers-requires-clause-workers : goal.close_workers-requires-clause-workers
-close_workers-requires-clause-workers g c =
+pub work_and_add-made-requires-clause-some : goal.work_and_add-made-requires-clause-some
+work_and_add-made-requires-clause-some g c κs within =
     let run = c.args.run.now in
     let w = run.engine.now.plan.workers in
-    omega (arith, ap length c.in_ok-workers.ensures.opened, length-opened_workers w run.board.now.table c.args.master.now.shows w, run.on_board.workers_are, c.in_ok-workers.workers.ok)
+    ap length c.deref_mut-else-is_empty.ensures.value ∙ ap length c.in_ok-workers.ensures.opened ∙ length-opened_workers w run.board.now.table c.args.master.now.shows w
 
-pub close_workers-requires-clause-network : goal.close_workers-requires-clause-network
-close_workers-requires-clause-network g c = subst IsNetwork c.args.run.now.on_board.net_is c.requires.ready.between.network
+pub work_and_add-made-requires-clause-ready : goal.work_and_add-made-requires-clause-ready
+work_and_add-made-requires-clause-ready g c κs within = rw (c.deref_mut-else-is_empty.ensures.value, c.in_ok-workers.ensures.opened)
+    (let run = c.args.run.now in
+    let w = run.engine.now.plan.workers in
+    opened_workers_ready run.board.now run.net.now w c.args.master.now.shows w run.on_board.net_is c.requires.ready.between)
 
-pub close_workers-requires-clause-master : goal.close_workers-requires-clause-master
-close_workers-requires-clause-master g c =
-    let w = c.args.run.now.engine.now.plan.workers in
-    let between = c.requires.ready.between in
-    let rest = subst (IsRest w c.args.master.now.shows) (sym c.in_ok-workers.ensures.rest) (first_rest w w c.args.master.now.shows) in (
-      (c.open_workers.ensures.table ∙ c.requires.ready.table_is, rest.net ∙ between.net_is ∙ c.args.run.now.on_board.net_is),
-      rest.master ∙ between.master,
-    )
+-- what the workers did, beside one another
+worked : (g : Over) (c : In_ok-units g)
+    → let run = c.args.run.now in
+    let w = run.engine.now.plan.workers in
+    HaveWorked run.engine.now.plan.sweeps c.in_ok-units.units (opened_workers w run.board.now.table c.args.master.now.shows w) c.if-is_empty.workers.items c.args.state.now c.if-is_empty.state
+worked g c =
+    let sweeps = c.args.run.now.engine.now.plan.sweeps in
+    let units = c.in_ok-units.units in
+    let v = c.in_ok-workers.workers in
+    let now = c.if-is_empty.workers in
+    let made = c.if-is_empty.made in
+    let journal = c.args.state.now.journal.raises in
+    elim c.if-is_empty.branch [
+      | then-is_empty w ↦
+          let empty : vec_len c.args.state.now.waiting ≡ 0 = eqb-true (vec_len c.args.state.now.waiting) 0 (sym w.if-is_empty.ensures) in
+          let none = nil_from_length c.args.state.now.waiting.items (omega (arith, empty, c.args.state.now.waiting.ok)) in
+          record {
+            rounded = back_from sweeps units v now w.deref_mut.result.now _ w.work-made.new.workers made w.work-made.result c.in_ok-units.was w.made-is w.workers-is w.deref_mut.ensures.value
+                c.in_ok-workers.ensures.opened w.work-made.ensures.rounded;
+            grown = rw (w.state-is) (subst (λ (ks : List Kept). HasGrownBy journal journal (raises_of_all ks)) (sym none) (grown_none journal));
+            none_waits = rw (w.state-is) none;
+            offices = rw (w.state-is) c.in_ok-workers.ensures.offices;
+          }
+      | else-is_empty w ↦
+          let does = subst (λ r. OnOk r (HasGrownBy journal w.work_and_add-made.new.journal.raises (raises_of_all c.args.state.now.waiting.items))) (sym w.made-is ∙ c.in_ok-units.was)
+          w.work_and_add-made.ensures.grown in
+          let none = subst (λ r. OnOk r (w.work_and_add-made.new.waiting.items ≡ [])) (sym w.made-is ∙ c.in_ok-units.was) w.work_and_add-made.ensures.none_waits in
+          record {
+            rounded = back_from sweeps units v now w.deref_mut-else-is_empty.result.now _ w.work_and_add-made.new.workers made w.work_and_add-made.result c.in_ok-units.was w.made-is w.workers-is
+                w.deref_mut-else-is_empty.ensures.value c.in_ok-workers.ensures.opened w.work_and_add-made.ensures.rounded;
+            grown = rw (w.state-is) does;
+            none_waits = rw (w.state-is) none;
+            offices = rw (w.state-is) c.in_ok-workers.ensures.offices;
+          }
+    ]
 
-pub close_workers-requires-clause-of_board : goal.close_workers-requires-clause-of_board
-close_workers-requires-clause-of_board g c =
+pub close_workers-requires : goal.close_workers-requires
+close_workers-requires g c =
     let run = c.args.run.now in
-    seats_of_board run.engine.now.limits run.on_board c.requires.ready
-    (all_back run.engine.now.plan.sweeps c.in_ok-units.units c.in_ok-workers.workers _ _ _ c.deref_mut.ensures.value c.in_ok-workers.ensures.opened c.in_ok-units.ensures.rounded)
+    may_close run.engine.now.limits run.on_board c.requires.ready (worked g (goal.at.close_workers-requires g c).In_ok-units)
+    c.open_workers.new.master c.open_workers.ensures.table c.in_ok-workers.ensures.rest
 
 pub returns : goal.returns
 returns g c =
@@ -49,9 +87,7 @@ returns g c =
     record {
       table = table;
       net = c.close_workers.ensures.net ∙ c.open_workers.ensures.net;
-      round = round_closed run.engine.now.limits run.on_board c.requires.ready
-          (all_back run.engine.now.plan.sweeps c.in_ok-units.units c.in_ok-workers.workers _ _ _ c.deref_mut.ensures.value c.in_ok-workers.ensures.opened c.in_ok-units.ensures.rounded)
-          c.open_workers.new.master c.close_workers.new.master c.work_beside.new.state c.close_workers.new.state
-          c.in_ok-visits.visits c.in_ok-workers.ensures.rest (table ∙ c.requires.ready.table_is) clock.over closed.back closed.visits closed.sum
-          clock.paid_below_least clock.sights_below_least c.in_ok-units.ensures.grown;
+      round = round_closed run.engine.now.limits run.on_board c.requires.ready (worked g (goal.at.returns g c).In_ok-units)
+          c.open_workers.new.master c.close_workers.new.master c.close_workers.new.state c.in_ok-visits.visits c.in_ok-workers.ensures.rest
+          (table ∙ c.requires.ready.table_is) clock.over closed.back closed.visits closed.sum clock.paid_below_least clock.sights_below_least;
     }

@@ -1,8 +1,11 @@
-use Rattle.std.proofs.Common.{length, ap, ◌∙◌, sym, subst, arith}
-use Rattle.clr_net.specs.Limits.{IsNetwork}
-use Rattle.settle.proofs.Closed.{all_back, round_closed, seats_of_board}
-use Rattle.settle.proofs.Handed.{IsRest, first_rest, length-opened_workers, opened_workers_ready, opened_workers_apart, opened_workers_called}
+use Rattle.std.proofs.Common.{length, ap, ◌∙◌}
+use Rattle.std.specs.Vec.{with_items}
+use Rattle.settle.specs.Between.{opened_workers}
+use Rattle.settle.proofs.Closed.{HaveWorked, all_back, may_close, round_closed}
+use Rattle.settle.proofs.Handed.{length-opened_workers, opened_workers_apart, opened_workers_called, opened_workers_ready}
 use Rattle.settle.proofs.teams.round_in_turn.Goals as goal
+use Rattle.settle.proofs.teams.round_in_turn.Given.{Over}
+use Rattle.settle.proofs.teams.round_in_turn.Goals.{In_ok-units}
 
 pub work_in_turn-requires-clause-some : goal.work_in_turn-requires-clause-some
 work_in_turn-requires-clause-some g c =
@@ -24,29 +27,24 @@ pub work_in_turn-requires-clause-apart : goal.work_in_turn-requires-clause-apart
 work_in_turn-requires-clause-apart g c = rw (c.deref_mut.ensures.value, c.in_ok-workers.ensures.opened)
     (opened_workers_apart c.args.run.now.net.now c.args.run.now.engine.now.plan.workers c.args.run.now.board.now.table c.args.master.now.shows c.requires.ready.between)
 
-pub close_workers-requires-clause-workers : goal.close_workers-requires-clause-workers
-close_workers-requires-clause-workers g c =
-    let run = c.args.run.now in
+-- what the workers did, one after another
+worked : (g : Over) (c : In_ok-units g)
+    → let run = c.args.run.now in
     let w = run.engine.now.plan.workers in
-    omega (arith, ap length c.in_ok-workers.ensures.opened, length-opened_workers w run.board.now.table c.args.master.now.shows w, run.on_board.workers_are, c.in_ok-workers.workers.ok)
+    HaveWorked run.engine.now.plan.sweeps c.in_ok-units.units (opened_workers w run.board.now.table c.args.master.now.shows w) (with_items c.in_ok-workers.workers c.work_in_turn.new.workers).items
+    c.args.state.now c.work_in_turn.new.state
+worked g c = record {
+  rounded = all_back c.args.run.now.engine.now.plan.sweeps c.in_ok-units.units c.in_ok-workers.workers _ _ _ c.deref_mut.ensures.value c.in_ok-workers.ensures.opened c.in_ok-units.ensures.rounded;
+  grown = c.in_ok-units.ensures.grown;
+  none_waits = c.in_ok-units.ensures.none_waits;
+  offices = ap (λ v. v.items) c.work_in_turn.ensures.offices ∙ c.in_ok-workers.ensures.offices;
+}
 
-pub close_workers-requires-clause-network : goal.close_workers-requires-clause-network
-close_workers-requires-clause-network g c = subst IsNetwork c.args.run.now.on_board.net_is c.requires.ready.between.network
-
-pub close_workers-requires-clause-master : goal.close_workers-requires-clause-master
-close_workers-requires-clause-master g c =
-    let w = c.args.run.now.engine.now.plan.workers in
-    let between = c.requires.ready.between in
-    let rest = subst (IsRest w c.args.master.now.shows) (sym c.in_ok-workers.ensures.rest) (first_rest w w c.args.master.now.shows) in (
-      (c.open_workers.ensures.table ∙ c.requires.ready.table_is, rest.net ∙ between.net_is ∙ c.args.run.now.on_board.net_is),
-      rest.master ∙ between.master,
-    )
-
-pub close_workers-requires-clause-of_board : goal.close_workers-requires-clause-of_board
-close_workers-requires-clause-of_board g c =
+pub close_workers-requires : goal.close_workers-requires
+close_workers-requires g c =
     let run = c.args.run.now in
-    seats_of_board run.engine.now.limits run.on_board c.requires.ready
-    (all_back run.engine.now.plan.sweeps c.in_ok-units.units c.in_ok-workers.workers _ _ _ c.deref_mut.ensures.value c.in_ok-workers.ensures.opened c.in_ok-units.ensures.rounded)
+    may_close run.engine.now.limits run.on_board c.requires.ready (worked g (goal.at.close_workers-requires g c).In_ok-units)
+    c.open_workers.new.master c.open_workers.ensures.table c.in_ok-workers.ensures.rest
 
 pub returns : goal.returns
 returns g c =
@@ -57,9 +55,7 @@ returns g c =
     record {
       table = table;
       net = c.close_workers.ensures.net ∙ c.open_workers.ensures.net;
-      round = round_closed run.engine.now.limits run.on_board c.requires.ready
-          (all_back run.engine.now.plan.sweeps c.in_ok-units.units c.in_ok-workers.workers _ _ _ c.deref_mut.ensures.value c.in_ok-workers.ensures.opened c.in_ok-units.ensures.rounded)
-          c.open_workers.new.master c.close_workers.new.master c.work_in_turn.new.state c.close_workers.new.state
-          c.in_ok-visits.visits c.in_ok-workers.ensures.rest (table ∙ c.requires.ready.table_is) clock.over closed.back closed.visits closed.sum
-          clock.paid_below_least clock.sights_below_least c.in_ok-units.ensures.grown;
+      round = round_closed run.engine.now.limits run.on_board c.requires.ready (worked g (goal.at.returns g c).In_ok-units)
+          c.open_workers.new.master c.close_workers.new.master c.close_workers.new.state c.in_ok-visits.visits c.in_ok-workers.ensures.rest
+          (table ∙ c.requires.ready.table_is) clock.over closed.back closed.visits closed.sum clock.paid_below_least clock.sights_below_least;
     }

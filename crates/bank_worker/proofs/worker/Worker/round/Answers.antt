@@ -4,8 +4,8 @@ use Rattle.bank_worker.specs.Views.{WorkerView}
 use Rattle.bank_worker.proofs.Calling.{all_called}
 use Rattle.bank_worker.proofs.worker.Worker.round.Goals as goal
 
-pub go_round-requires-clause-called : goal.go_round-requires-clause-called
-go_round-requires-clause-called g c =
+pub round_over-requires-clause-called : goal.round_over-requires-clause-called
+round_over-requires-clause-called g c =
     let a = c.self.inside in
     let office = c.self.invariant.office in
     subst (λ (w : WorkerView). AreCalledOrAtRest c.all.result w.seat.shows w.desks) c.self.view_is

@@ -1,6 +1,6 @@
 use Rattle.bank_worker.specs.Called.{AreCalledOrAtRest, CallsOthers, KeepsOthers}
 use Rattle.bank_worker.proofs.Sweeping.{RoundTo}
-use Rattle.bank_worker.proofs.worker.Worker.go_round.Given as goal
+use Rattle.bank_worker.proofs.worker.Worker.round_over.Given as goal
 
 abbrev pub invariant-loop : goal.invariant-loop
 invariant-loop g l = record {

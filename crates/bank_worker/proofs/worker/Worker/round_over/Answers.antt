@@ -1,14 +1,14 @@
 use Rattle.std.proofs.Common.{◌+◌, length, ap, arith}
 use Rattle.bank_worker.proofs.Calling.{called_still, calls_none, calls_on}
 use Rattle.bank_worker.proofs.Sweeping.{few_in_all, round_made, round_more, round_start, round_stopped}
-use Rattle.bank_worker.proofs.worker.Worker.go_round.Goals as goal
+use Rattle.bank_worker.proofs.worker.Worker.round_over.Goals as goal
 use Rattle.bank_worker.specs.Called.{KeepsOthers, CallsOthers}
-use Rattle.bank_worker.proofs.worker.Worker.go_round.Goals.{After-sweep}
-use Rattle.bank_worker.proofs.worker.Worker.go_round.Given.{Over}
+use Rattle.bank_worker.proofs.worker.Worker.round_over.Goals.{After-sweep}
+use Rattle.bank_worker.proofs.worker.Worker.round_over.Given.{Over}
 
 pub loop-init : goal.loop-init
 loop-init g c = record {
-  round = round_start c.args.self.now c.requires.idle.0 c.requires.idle.1 c.desks-desks.ensures.no_rings c.desks-desks.ensures.held;
+  round = round_start c.args.self.now c.requires.ready.calm c.requires.ready.rest c.desks-desks.ensures.no_rings c.desks-desks.ensures.held;
   called = c.requires.called;
   keeps_others = λ b other is. is;
   rung = calls_none c.args.self.now c.args.called.now;
