@@ -1,23 +1,73 @@
-//! Which bells are up: `calls_two_workers` on many sets of bells, and `is_up` before and after each
-//! bell is taken.
+//! What a new board answers: which bells are up before they are taken and after it, whether those that
+//! are left call two workers, and what a seat says that is given back.
 ghost use Rattle.pay_words.specs.Views.{HoldsAll, IsAt};
 ghost use Rattle.std.specs.Prelude.{◌≡◌, ◌<◌, ◌≤◌, length};
 
-use crate::boards::{new_board, take_bells};
+use crate::boards::new_board;
 use crate::nets::{Sample, net_of};
+use bank_worker::SeatBack;
 use clr_net::{BankId, Mem, Network};
 use pay_words::{Board, PaySeat};
 use settle::calls_two_workers;
 use std::alloc::Global;
 use std::test::Fail;
 
-// Whether bells of two workers are up, where those of these banks alone are.
-fn two_called(alloc: Global, net: &Network, workers: u32, up: [u32; 3]) -> Result<bool, Mem>
+// Takes all bells but those of these banks. Whether each was up before, and down after it.
+fn take_bells(board: &Board, master: &mut PaySeat, banks: u32, kept: [u32; 3]) -> bool
+    requires seat { IsAt board.now master.old }
+    requires held { HoldsAll master.old.shows }
+    requires banks { banks ≤ length board.now.net.banks }
+{
+    let mut right = true;
+    for bank in 0..banks {
+        if bank != kept[0] && bank != kept[1] && bank != kept[2] {
+            let up = board.is_up(BankId(bank));
+            let taken = board.take(master, BankId(bank));
+            right = right && up && taken && !board.is_up(BankId(bank));
+        }
+    }
+    right
+}
+
+// Whether a seat that is given back for want of memory says so. A clause says which text it shows,
+// and not that no showing fails.
+fn says_so(alloc: Global, back: &SeatBack) -> bool {
+    match format!(in alloc; "{back}") {
+        Ok(text) => text.as_bytes() == b"out of memory".as_slice(),
+        Err(_) => false,
+    }
+}
+
+// Whether all bells but those that are left were told as they are, whether those call two workers,
+// and whether the master, given back, says so.
+type Answers = (bool, bool, bool);
+
+fn answers_on(
+    alloc: Global,
+    net: &Network,
+    board: &Board,
+    master: PaySeat,
+    workers: u32,
+    left: [u32; 3],
+) -> Answers
+    requires net { net.now ≡ board.now.net }
+    requires workers { 1 ≤ workers }
+    requires seat { IsAt board.now master }
+    requires held { HoldsAll master.shows }
+{
+    let mut master = master;
+    let right = take_bells(board, &mut master, net.banks(), left);
+    let two = calls_two_workers(net, board, workers);
+    (right, two, says_so(alloc, &SeatBack { seat: master }))
+}
+
+// The same, on a new board of 1,000 banks.
+fn answers(alloc: Global, workers: u32, left: [u32; 3]) -> Result<Answers, Mem>
     requires { (1 ≤ workers) × (workers ≤ 64) }
 {
-    let (board, mut master) = new_board(alloc, net, workers)?;
-    take_bells(&board, &mut master, net.banks(), up);
-    Ok(calls_two_workers(net, &board, workers))
+    let net = net_of(alloc, Sample::TwoPoorPairs)?;
+    let (board, master) = new_board(alloc, &net, workers)?;
+    Ok(answers_on(alloc, &net, &board, master, workers, left))
 }
 
 // Workers, the banks whose bells are up, and whether they call two of the workers. There is no bank
@@ -60,12 +110,12 @@ fn asked(place: u32) -> (u32, [u32; 3], bool)
     )
 }
 
-// The first case in which it is not so, on 1,000 banks.
+// The first case that is answered in another way.
 fn first_uncalled(alloc: Global) -> Result<Option<u32>, Mem> {
-    let net = net_of(alloc, Sample::TwoPoorPairs)?;
     for place in 0..144 {
-        let (workers, up, wanted) = asked(place);
-        if two_called(alloc, &net, workers.clamp(1, 64), up)? != wanted {
+        let (workers, left, wanted) = asked(place);
+        let (right, two, _) = answers(alloc, workers.clamp(1, 64), left)?;
+        if !right || two != wanted {
             return Ok(Some(place));
         }
     }
@@ -79,32 +129,12 @@ fn bells_of_two_workers_call_both(rt: HostRuntime) -> Result<(), Fail> {
     Ok(())
 }
 
-// The first bank whose bell is not told as up, and then as down once it was taken.
-fn first_mistold(board: &Board, master: &mut PaySeat, banks: u32) -> Option<u32>
-    requires seat { IsAt board.now master.old }
-    requires held { HoldsAll master.old.shows }
-    requires banks { banks ≤ length board.now.net.banks }
-{
-    for bank in 0..banks {
-        let up = board.is_up(BankId(bank));
-        let taken = board.take(master, BankId(bank));
-        if !up || !taken || board.is_up(BankId(bank)) {
-            return Some(bank);
-        }
-    }
-    None
-}
-
-// The same, on a new board of 1,000 banks.
-fn first_mistold_anew(alloc: Global) -> Result<Option<u32>, Mem> {
-    let net = net_of(alloc, Sample::TwoPoorPairs)?;
-    let (board, mut master) = new_board(alloc, &net, 1)?;
-    Ok(first_mistold(&board, &mut master, net.banks()))
-}
-
+// There is no bank 1,000, so all bells are taken.
 #[test]
-fn each_bell_is_up_until_it_is_taken(rt: HostRuntime) -> Result<(), Fail> {
-    let wrong = first_mistold_anew(rt.alloc())?;
-    assert_eq!(rt; wrong, None);
+fn each_bell_is_up_until_it_is_taken_and_a_seat_says_why_it_is_given_back(
+    rt: HostRuntime,
+) -> Result<(), Fail> {
+    let told = answers(rt.alloc(), 1, [1000; 3])?;
+    assert_eq!(rt; told, (true, false, true));
     Ok(())
 }

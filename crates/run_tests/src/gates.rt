@@ -25,20 +25,6 @@ fn waits_for<R: Clock>(rt: &R, number: &AtomicU64, wanted: u64, millis: u32) -> 
     false
 }
 
-// Counts the calls of the first visit of each worker.
-#[derive(Drop)]
-pub(crate) struct FirstVisits {
-    pub(crate) calls: AtomicU64,
-}
-
-impl Gate for FirstVisits {
-    fn at(&self, worker: u32, visit: u64) {
-        if worker < 2 && visit == 1 {
-            self.calls.fetch_add(1, Ordering::SeqCst);
-        }
-    }
-}
-
 // In one round, the first visit of each worker waits until so many have come. Each worker comes
 // once.
 #[derive(Drop)]

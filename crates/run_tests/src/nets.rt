@@ -11,72 +11,115 @@ pub(crate) enum Sample {
     NoBank,
     Chain,
     Ring,
-    // A ring whose debts are of so many units.
-    LongRing(u64),
-    // 700 banks.
-    TwoPairs,
-    // 1,000 banks, none of which has a unit.
-    TwoPoorPairs,
     // So many banks, which owe round a circle.
     Woven(u32),
-    // So many banks of a unit each, of which each from this number on owes the bank as many before it.
+    // A ring of two banks whose debts are of so many units.
+    LongRing(u64),
+    // A ring of 300 banks, each of which owes the next a unit.
+    WideRing,
+    // 700 banks of nothing, but that the bank 6 owes the bank 2 a unit and the bank 7 owes the bank 3
+    // one, and both have this. Each of both pairs is of one worker, where there are one, two or four.
+    TwoPairs,
+    // The same of 1,000 banks, none of which has a unit.
+    TwoPoorPairs,
+    // So many banks of a unit each, of which each from this number on owes the bank as many before
+    // it. In each sweep over the banks all that a bank has goes down a step.
     Stairs(u32, u32),
+    // Five banks, of which the third owes the first a unit, and the fourth one to the second and one
+    // to the fifth.
+    Five,
+    // A chain of three, with banks of nothing before and after: its first is the bank that worker 0
+    // of two visits in this turn, its second that which worker 1 does, and its third comes after both.
+    Late(u32),
 }
 
-// Adds a bank, named by its number.
-fn add_numbered(alloc: Global, net: &mut Network, number: u32, cash: u64) -> Result<(), Mem>
-    requires { number < 1000 }
+// How many banks and debts a sample has that is made here.
+fn size_of(sample: Sample) -> [u32; 2] {
+    match sample {
+        Sample::LongRing(_) => [2, 2],
+        Sample::WideRing => [300, 300],
+        Sample::TwoPairs => [700, 2],
+        Sample::TwoPoorPairs => [1000, 2],
+        Sample::Stairs(banks, step) => [banks, banks.saturating_sub(step)],
+        Sample::Five => [5, 3],
+        Sample::Late(turn) => [turn.saturating_mul(2).saturating_add(2), 2],
+        _ => [0, 0],
+    }
+}
+
+// The cash of a bank of it.
+fn cash_of(sample: Sample, bank: u32) -> u64 {
+    match sample {
+        Sample::LongRing(_) | Sample::WideRing => u64::from(bank == 0),
+        Sample::TwoPairs => u64::from(bank == 6 || bank == 7),
+        Sample::Stairs(_, _) => 1,
+        Sample::Five => [0, 0, 1, 2, 0][bank as usize % 5],
+        Sample::Late(turn) => late_cash(turn, bank),
+        _ => 0,
+    }
+}
+
+fn late_cash(turn: u32, bank: u32) -> u64 {
+    if bank.saturating_add(2) == turn.saturating_mul(2) {
+        7
+    } else {
+        u64::from(bank.saturating_add(1) == turn.saturating_mul(2))
+    }
+}
+
+// A debt of it: the debtor, the creditor and the claim.
+fn debt_of(sample: Sample, debt: u32) -> (u32, u32, u64)
+    requires { debt < 1000 }
 {
-    let name = [b'A' + (number / 32) as u8, b'A' + (number % 32) as u8];
-    add_bank(alloc, net, &name, cash)
+    match sample {
+        Sample::LongRing(units) => (debt, u32::from(debt == 0), units),
+        Sample::WideRing => (debt, (debt + 1) % 300, 1),
+        Sample::Stairs(_, step) => (debt.saturating_add(step), debt, 20),
+        Sample::Five => [(2, 0, 1), (3, 1, 1), (3, 4, 1)][debt as usize % 3],
+        Sample::Late(turn) => late_debt(turn.saturating_mul(2), debt),
+        _ => (debt + 6, debt + 2, 1),
+    }
 }
 
-// Adds A and B, which owe one another so many units. A has one.
-fn add_long_ring(alloc: Global, net: &mut Network, units: u64) -> Result<(), Mem> {
-    add_bank(alloc, net, b"A", 1)?;
-    add_bank(alloc, net, b"B", 0)?;
-    add_debt(net, 0, 1, units)?;
-    add_debt(net, 1, 0, units)
+fn late_debt(third: u32, debt: u32) -> (u32, u32, u64) {
+    let second = third.saturating_sub(1);
+    if debt == 0 {
+        (third.saturating_sub(2), second, 10)
+    } else {
+        (second, third.saturating_add(1), 9)
+    }
 }
 
-// Adds so many banks of nothing, but that the bank 6 owes the bank 2 a unit and the bank 7 owes the
-// bank 3 one, and both have this. Each of both pairs is of one worker, where there are one, two or
-// four.
-fn add_two_pairs(alloc: Global, net: &mut Network, banks: u32, cash: u64) -> Result<(), Mem>
+// Adds the banks of a sample, named by their numbers.
+fn add_banks(alloc: Global, net: &mut Network, sample: Sample, banks: u32) -> Result<(), Mem>
     requires { banks ≤ 1000 }
 {
     for number in 0..banks {
-        let cash = if number == 6 || number == 7 { cash } else { 0 };
-        add_numbered(alloc, net, number, cash)?;
-    }
-    add_debt(net, 6, 2, 1)?;
-    add_debt(net, 7, 3, 1)
-}
-
-// Adds the banks of stairs. In each sweep over the banks all that a bank has goes down a step.
-fn add_stairs(alloc: Global, net: &mut Network, banks: u32, step: u32) -> Result<(), Mem>
-    requires { (1 ≤ step) × (banks ≤ 1000) }
-{
-    for number in 0..banks {
-        add_numbered(alloc, net, number, 1)?;
-    }
-    for number in step..banks {
-        add_debt(net, number, number - step, 20)?;
+        let name = [b'A' + (number / 32) as u8, b'A' + (number % 32) as u8];
+        add_bank(alloc, net, &name, cash_of(sample, number))?;
     }
     Ok(())
 }
 
-fn made_by_hand(alloc: Global, sample: Sample) -> Result<Network, Mem> {
-    let mut net = Network::empty(alloc);
-    match sample {
-        Sample::LongRing(units) => add_long_ring(alloc, &mut net, units.min(1000))?,
-        Sample::TwoPairs => add_two_pairs(alloc, &mut net, 700, 1)?,
-        Sample::TwoPoorPairs => add_two_pairs(alloc, &mut net, 1000, 0)?,
-        Sample::Stairs(banks, step) => {
-            add_stairs(alloc, &mut net, banks.min(1000), step.max(1))?;
-        }
-        _ => {}
+fn add_debts(net: &mut Network, sample: Sample, debts: u32) -> Result<(), Mem>
+    requires { debts ≤ 1000 }
+{
+    for number in 0..debts {
+        let (debtor, creditor, claim) = debt_of(sample, number);
+        add_debt(net, debtor, creditor, claim)?;
     }
+    Ok(())
+}
+
+fn add_all(alloc: Global, net: &mut Network, sample: Sample) -> Result<(), Mem> {
+    let [banks, debts] = size_of(sample);
+    add_banks(alloc, net, sample, banks.min(1000))?;
+    add_debts(net, sample, debts.min(1000))
+}
+
+fn made_here(alloc: Global, sample: Sample) -> Result<Network, Mem> {
+    let mut net = Network::empty(alloc);
+    add_all(alloc, &mut net, sample)?;
     Ok(net)
 }
 
@@ -86,47 +129,6 @@ pub(crate) fn net_of(alloc: Global, sample: Sample) -> Result<Network, Mem> {
         Sample::Chain => chain(alloc),
         Sample::Ring => ring(alloc),
         Sample::Woven(banks) => woven(alloc, banks),
-        _ => made_by_hand(alloc, sample),
+        _ => made_here(alloc, sample),
     }
-}
-
-// Adds the banks of a chain of three of which the first is the bank that worker 0 of two visits in
-// this turn, the second that which worker 1 does, and the third a bank that comes after both.
-fn add_late_banks(alloc: Global, net: &mut Network, turn: u32) -> Result<(), Mem>
-    requires { (1 ≤ turn) × (turn ≤ 100) }
-{
-    for number in 0..2 * turn + 2 {
-        let cash = if number == 2 * turn - 2 {
-            7
-        } else if number == 2 * turn - 1 {
-            1
-        } else {
-            0
-        };
-        add_numbered(alloc, net, number, cash)?;
-    }
-    Ok(())
-}
-
-// That chain, with banks of nothing before and after.
-pub(crate) fn late_chain(alloc: Global, turn: u32) -> Result<Network, Mem>
-    requires { (1 ≤ turn) × (turn ≤ 100) }
-{
-    let mut net = Network::empty(alloc);
-    add_late_banks(alloc, &mut net, turn)?;
-    add_debt(&mut net, 2 * turn - 2, 2 * turn - 1, 10)?;
-    add_debt(&mut net, 2 * turn - 1, 2 * turn + 1, 9)?;
-    Ok(net)
-}
-
-// A ring of 300 banks, each of which owes the next a unit. The first has one.
-pub(crate) fn wide_ring(alloc: Global) -> Result<Network, Mem> {
-    let mut net = Network::empty(alloc);
-    for number in 0..300_u32 {
-        add_numbered(alloc, &mut net, number, u64::from(number == 0))?;
-    }
-    for number in 0..300_u32 {
-        add_debt(&mut net, number, (number + 1) % 300, 1)?;
-    }
-    Ok(net)
 }

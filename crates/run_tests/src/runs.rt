@@ -1,190 +1,141 @@
-//! What runs on the smallest networks come to: what they pay, in how many rounds and visits, and by
-//! which raises.
+//! The runs that tests make: on which network, by how many workers, and by which call.
 ghost use Rattle.settle.specs.Drives.{IsPlan};
-ghost use Rattle.std.specs.Prelude.{◌≤◌};
 
-use crate::boards::first_raises;
+use crate::boards::new_board;
+use crate::nets::{Sample, net_of};
+use clear_core::Raise;
 use clr_edge::{Gate, OpenGate};
 use clr_net::{Mem, Network};
-use net_samples::{chain, ring};
-use settle::{Plan, Settled, settle};
+use settle::{Engine, Plan, Settled, drive, offices_of, settle, settle_alone, settle_from};
 use std::alloc::Global;
-use std::test::Fail;
 use std::thread::Threads;
 
-// A plan of one worker and one sweep.
-pub(crate) const ALONE: Plan = Plan {
-    workers: 1,
-    sweeps: 1,
-};
-
-// What a run came to, in numbers: what is paid on the first two debts, and the first ten raises.
+// How a run is begun.
 #[derive(Clone, Copy)]
-pub(crate) struct RunTold {
-    pub(crate) debts: usize,
-    pub(crate) paid: [u64; 2],
-    pub(crate) rounds: u64,
-    pub(crate) visits: u64,
-    pub(crate) made: u64,
-    pub(crate) seats: u64,
-    pub(crate) journal: usize,
-    pub(crate) raises: [(u64, u32, u64); 10],
+pub(crate) enum Begun {
+    Settled,
+    // Without threads of its own.
+    Alone,
+    // On a board that was made by hand.
+    Driven,
+    // From the raises of a run before it.
+    Resumed,
 }
 
-// These numbers of a run.
-pub(crate) fn told_of(settled: &Settled) -> RunTold {
-    let paid = settled.paid.as_slice();
-    let journal = settled.sealed.journal();
-    let mut first = [0; 2];
-    for (place, value) in paid.iter().enumerate() {
-        if let Some(one) = first.get_mut(place) {
-            *one = *value;
+// A run to be made: how it is begun, on which network, by so many workers, and by so many sweeps in
+// each of its rounds.
+#[derive(Clone, Copy)]
+pub(crate) struct Job {
+    pub(crate) begun: Begun,
+    pub(crate) sample: Sample,
+    pub(crate) workers: u32,
+    pub(crate) sweeps: u32,
+}
+
+// What a run came to: its rounds, visits and raises, and of the first three raises the stamp, the
+// debt and what is paid from then on.
+#[derive(Clone, Copy)]
+pub(crate) struct Told {
+    pub(crate) counts: [u64; 3],
+    pub(crate) raises: [(u64, u32, u64); 3],
+}
+
+fn told_of(rounds: u64, visits: u64, journal: &[Raise]) -> Told {
+    let mut raises = [(0, 0, 0); 3];
+    for (place, raise) in journal.iter().enumerate() {
+        if let Some(one) = raises.get_mut(place) {
+            *one = (raise.stamp, raise.debt.0, raise.to);
         }
     }
-    let raises = first_raises(journal);
-    RunTold {
-        debts: paid.len(),
-        paid: first,
-        rounds: settled.rounds,
-        visits: settled.visits,
-        made: settled.sealed.made(),
-        seats: settled.sealed.seats(),
-        journal: journal.len(),
+    Told {
+        counts: [rounds, visits, journal.len() as u64],
         raises,
     }
 }
 
-// What a run on the network comes to.
-pub(crate) fn run<R: Threads + Sync, G: Gate + Sync>(
+fn told_by(settled: &Settled) -> Told {
+    told_of(settled.rounds, settled.visits, settled.sealed.journal())
+}
+
+fn settled<R: Threads + Sync, G: Gate + Sync>(
     rt: &R,
     alloc: Global,
     net: &Network,
     plan: Plan,
     gate: &G,
-) -> Result<RunTold, Mem>
+) -> Result<Told, Mem>
     requires { IsPlan plan }
 {
     let settled = settle(rt, alloc, net, plan, gate)?;
-    Ok(told_of(&settled))
+    Ok(told_by(&settled))
 }
 
-// A run on the chain, and one on the ring.
-fn run_chain<R: Threads + Sync, G: Gate + Sync>(
+fn alone<G: Gate>(alloc: Global, net: &Network, plan: Plan, gate: &G) -> Result<Told, Mem>
+    requires { IsPlan plan }
+{
+    let mut offices = offices_of(alloc, net, plan.workers)?;
+    let engine = Engine { alloc, plan, gate };
+    let settled = settle_alone(&engine, net.copy(alloc)?, &mut offices)?;
+    Ok(told_by(&settled))
+}
+
+fn driven<R: Threads + Sync, G: Gate + Sync>(
     rt: &R,
     alloc: Global,
+    net: &Network,
     plan: Plan,
     gate: &G,
-) -> Result<RunTold, Mem>
+) -> Result<Told, Mem>
     requires { IsPlan plan }
 {
-    let net = chain(alloc)?;
-    run(rt, alloc, &net, plan, gate)
+    let (board, mut master) = new_board(alloc, net, plan.workers)?;
+    let told = drive(rt, alloc, net, plan, &[], &board, &mut master, gate)?;
+    Ok(told_of(told.rounds, told.visits, told.journal.as_slice()))
 }
 
-fn run_ring<R: Threads + Sync, G: Gate + Sync>(
+fn resumed<R: Threads + Sync, G: Gate + Sync>(
     rt: &R,
     alloc: Global,
+    net: &Network,
     plan: Plan,
     gate: &G,
-) -> Result<RunTold, Mem>
+) -> Result<Told, Mem>
     requires { IsPlan plan }
 {
-    let net = ring(alloc)?;
-    run(rt, alloc, &net, plan, gate)
+    let before = settle(rt, alloc, net, plan, &OpenGate)?;
+    let settled = settle_from(rt, alloc, net, plan, before.sealed.journal(), gate)?;
+    Ok(told_by(&settled))
 }
 
-#[test]
-fn one_unit_goes_round_a_ring(rt: HostRuntime) -> Result<(), Fail> {
-    let told = run_ring(&rt, rt.alloc(), ALONE, &OpenGate)?;
-    let paid = told.paid;
-    let told_raises = told.raises;
-    let counts = [told.rounds, told.visits, told.made, told.seats];
-    // A and B by turns, a unit each.
-    let raises = [
-        (1, 0, 1),
-        (2, 1, 1),
-        (3, 0, 2),
-        (4, 1, 2),
-        (5, 0, 3),
-        (6, 1, 3),
-        (7, 0, 4),
-        (8, 1, 4),
-        (9, 0, 5),
-        (10, 1, 5),
-    ];
-    assert_eq!(rt;
-        (paid, counts, told.journal, told_raises),
-        ([5, 5], [6, 11, 10, 6], 10, raises)
-    );
-    Ok(())
-}
-
-// Whether a run on the ring by a plan pays all by ten raises, with a seat for each worker in each
-// round. One worker that sweeps often enough finds it all in its first round.
-fn pays_all<R: Threads + Sync>(rt: &R, alloc: Global, plan: Plan) -> Result<bool, Mem>
+fn begun_on<R: Threads + Sync, G: Gate + Sync>(
+    rt: &R,
+    alloc: Global,
+    net: &Network,
+    begun: Begun,
+    plan: Plan,
+    gate: &G,
+) -> Result<Told, Mem>
     requires { IsPlan plan }
 {
-    let told = run_ring(rt, alloc, plan, &OpenGate)?;
-    let paid = told.paid;
-    let rounds = if plan.workers > 1 {
-        told.rounds
-    } else if plan.sweeps == 1 {
-        6
-    } else {
-        2
+    match begun {
+        Begun::Settled => settled(rt, alloc, net, plan, gate),
+        Begun::Alone => alone(alloc, net, plan, gate),
+        Begun::Driven => driven(rt, alloc, net, plan, gate),
+        Begun::Resumed => resumed(rt, alloc, net, plan, gate),
+    }
+}
+
+// What a run comes to, past this gate.
+pub(crate) fn run<R: Threads + Sync, G: Gate + Sync>(
+    rt: &R,
+    alloc: Global,
+    job: Job,
+    gate: &G,
+) -> Result<Told, Mem> {
+    let net = net_of(alloc, job.sample)?;
+    let plan = Plan {
+        workers: job.workers.clamp(1, 64),
+        sweeps: job.sweeps.clamp(1, 1000),
     };
-    Ok(
-        paid == [5, 5]
-            && told.journal == 10
-            && told.rounds == rounds
-            && told.seats % told.rounds.max(1) == 0
-            && told.seats / told.rounds.max(1) == plan.workers as u64,
-    )
-}
-
-// Whether each of six plans does.
-fn all_pay_all<R: Threads + Sync>(rt: &R, alloc: Global) -> Result<bool, Mem> {
-    let mut all = true;
-    for (workers, sweeps) in [(1, 1), (1, 7), (2, 1), (2, 7), (64, 1), (64, 7)] {
-        all = pays_all(rt, alloc, Plan { workers, sweeps })? && all;
-    }
-    Ok(all)
-}
-
-#[test]
-fn every_plan_pays_the_same(rt: HostRuntime) -> Result<(), Fail> {
-    let all = all_pay_all(&rt, rt.alloc())?;
-    assert!(rt; all);
-    Ok(())
-}
-
-#[test]
-fn a_chain_takes_two_rounds(rt: HostRuntime) -> Result<(), Fail> {
-    let told = run_chain(&rt, rt.alloc(), ALONE, &OpenGate)?;
-    let paid = told.paid;
-    let counts = [told.rounds, told.visits, told.made, told.seats];
-    assert_eq!(rt; (paid, counts), ([7, 8], [2, 3, 2, 2]));
-    Ok(())
-}
-
-// A run without a bank.
-fn run_none<R: Threads + Sync>(rt: &R, alloc: Global, workers: u32) -> Result<RunTold, Mem>
-    requires { (1 ≤ workers) × (workers ≤ 64) }
-{
-    let net = Network::empty(alloc);
-    let plan = Plan { workers, sweeps: 1 };
-    run(rt, alloc, &net, plan, &OpenGate)
-}
-
-#[test]
-fn no_bank_takes_one_round(rt: HostRuntime) -> Result<(), Fail> {
-    for workers in [1, 4] {
-        let told = run_none(&rt, rt.alloc(), workers)?;
-        assert_eq!(rt;
-            (told.debts, told.rounds, told.visits),
-            (0, 1, 0),
-            "{workers}"
-        );
-    }
-    Ok(())
+    begun_on(rt, alloc, &net, job.begun, plan, gate)
 }
