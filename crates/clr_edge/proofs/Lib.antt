@@ -1,3 +1,5 @@
+pub mod Fetches
+pub mod LineStart
 pub mod Names
 pub mod Passed
 pub mod Pieces

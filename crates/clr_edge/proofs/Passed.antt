@@ -1,6 +1,6 @@
 -- Bytes that pass a room: some and then others.
-use Rattle.std.proofs.Common.{◌≡◌, ℕ, ◌+◌, ◌<◌, ◌≤◌, List, [], ◌∷◌, ◌++◌, Option, Vec, Global, drop, get_or, length, take}
-use Rattle.std.proofs.Common.{refl, sym, ap, ap₂, ◌∙◌, append_assoc, append-nil, arith, take-append-drop}
+use Rattle.std.proofs.Common.{◌≡◌, ℕ, ◌+◌, ◌<◌, ◌≤◌, List, [], ◌∷◌, ◌++◌, Option, drop, get_or, length, take}
+use Rattle.std.proofs.Common.{refl, sym, ap, ap₂, subst, ◌∙◌, append_assoc, append-nil, arith, take-append-drop}
 use Rattle.std.specs.List.{flat_map, zip}
 use Rattle.std.proofs.Common.{Result, Ok, Err}
 use Rattle.std.proofs.lemmas.List.{take_more}
@@ -8,6 +8,8 @@ use Rattle.std.proofs.lemmas.List.Concat.{flat_map-append}
 use Rattle.std.proofs.lemmas.Slice.Zip.{get_or-zip, length-zip}
 use Rattle.std.specs.Result.{OnErr}
 use Rattle.std.proofs.lemmas.Result.{on_ok_weaker, on_err_weaker}
+use Rattle.clr_edge.specs.Faults.{HasRisen}
+use Rattle.clr_edge.specs.Sink.{WritesPart}
 use Rattle.clr_edge.specs.Taking.{Passes, PassesOn, SinkCall, TakesPart, TakesWhole, sink_call}
 use Rattle.clr_edge.proofs.Pieces.{part_in_front, whole_then_part, whole_then_whole, with_nothing}
 
@@ -91,6 +93,17 @@ front_stops {r = r} {x = x} result y fails stops = rw fails (record {
   passed = tt;
   part = pass_part_in_front r x y stops.part;
   faults = stops.faults;
+  well = λ holds. tt;
+})
+
+-- a sink that fails at what waited takes a part of it, and so of it and the bytes
+pub wait_stops : {T E : Type 0} {alone : Type 0} {old new : Option (List ℕ)} {a c : ℕ} {waited put after : List ℕ} {why : E}
+    (result : Result T E) (bytes : List ℕ) → result ≡ Err why → put ≡ waited → WritesPart old new put → HasRisen a c → a ≤ c
+    → PassesOn alone (sink_call old new a c) waited after bytes result
+wait_stops {old = old} {new = new} result bytes fails is part rose no_fall = rw fails (record {
+  passed = tt;
+  part = part_in_front bytes (subst (WritesPart old new) is part, rose);
+  faults = no_fall;
   well = λ holds. tt;
 })
 

@@ -11,7 +11,7 @@ abbrev pub count_of : List (List ℕ) → List ℕ → ℕ
 count_of noted name = count_by (λ other. bytes_eq other name) noted
 
 -- one more note counts for its name
-count_of-push : (noted : List (List ℕ)) (name other : List ℕ) → count_of (noted ++ name ∷ []) other ≡ count_of noted other + cond (bytes_eq name other) 1 0
+pub count_of-push : (noted : List (List ℕ)) (name other : List ℕ) → count_of (noted ++ name ∷ []) other ≡ count_of noted other + cond (bytes_eq name other) 1 0
 count_of-push noted name other =
     let split = sum_by-append (λ (m : List ℕ). cond (bytes_eq m other) 1 0) noted (name ∷ []) in
     omega (arith, split)

@@ -3,7 +3,7 @@ ghost use Rattle.clr_edge.specs.MemShelf.{empty_shelf, file_at, fault_count, wit
 ghost use Rattle.clr_edge.specs.Shelf.{IsFetched};
 ghost use Rattle.std.specs.List.{list_any};
 ghost use Rattle.std.specs.Map.{lookup};
-ghost use Rattle.std.specs.Prelude.{◌≡◌, ◌≢◌, ◌==◌, ◌+◌, ◌<◌, ◌^◌, [], ◌∷◌, ◌++◌, ℕ, List, take, position, slice_index_or, slice_set, bytes_eq, vec_len, if◌then◌else◌, IfOk, OnOk, OnErr, IsErrOf, Some, None, option_map};
+ghost use Rattle.std.specs.Prelude.{◌≡◌, ◌≢◌, ◌==◌, ◌+◌, ◌<◌, ◌^◌, [], ◌∷◌, ◌++◌, ℕ, List, map, string_bytes, take, position, slice_index_or, slice_set, bytes_eq, vec_len, if◌then◌else◌, IfOk, OnOk, OnErr, IsErrOf, Some, None, option_map};
 
 use crate::{FetchFault, Shelf};
 use clr_net::Mem;
@@ -125,12 +125,28 @@ impl Shelf for MemShelf {
     {
         self.calls = self.calls.saturating_add(1);
         match given(&self.files, &self.to_fail, self.calls, name) {
-            Some(bytes) => Ok(front(alloc, bytes, limit)?),
-            None => {
-                self.noted.push(String::from_str(alloc, name)?)?;
-                Err(FetchFault::Failed)
-            }
+            Some(bytes) => match front(alloc, bytes, limit) {
+                Ok(front) => Ok(front),
+                Err(_) => Err(FetchFault::Mem),
+            },
+            None => Err(note(alloc, &mut self.noted, name)),
         }
+    }
+}
+
+/// Notes the name of a fetch that fails, and says why it does: for want of memory, where there is
+/// no room for the note.
+fn note(alloc: Global, noted: &mut Vec<String>, name: &str) -> FetchFault
+    ensures failed { result ≡ FetchFault.Failed
+        → map string_bytes noted.new.items ≡ map string_bytes noted.old.items ++ name.now ∷ [] }
+    ensures mem { result ≡ FetchFault.Mem → noted.new.items ≡ noted.old.items }
+{
+    match String::from_str(alloc, name) {
+        Ok(name) => match noted.push(name) {
+            Ok(()) => FetchFault::Failed,
+            Err(_) => FetchFault::Mem,
+        },
+        Err(_) => FetchFault::Mem,
     }
 }
 
