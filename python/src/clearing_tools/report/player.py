@@ -4,7 +4,8 @@ from typing import Callable, Dict, List, Mapping, Optional, Protocol, Sequence
 from clearing_client.records import Payment
 
 from .. import labels
-from ..drawing.ring import LEAST_WIDTH, MOST_WIDTH, Drawn
+from ..drawing.curves import LEAST_WIDTH, MOST_WIDTH
+from ..drawing.drawn import Drawn
 from ..fullnames import FullNames
 from ..money import Money
 from ..texts import Bank

@@ -2,7 +2,7 @@
 from typing import Dict, List, NamedTuple, Tuple
 
 from ...drawing import network
-from ...drawing.ring import Drawn
+from ...drawing.drawn import Drawn
 from ...texts import Flow, flows_of, shortfall_of
 from ..matter import Matter, counted
 from .figure import Data
