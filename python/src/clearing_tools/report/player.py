@@ -10,7 +10,7 @@ from ..fullnames import FullNames
 from ..money import Money
 from ..texts import Bank
 from .journal import Frame
-from .tables import outside_of
+from .bank_table import outside_of
 
 OUTSIDE, BLOCK = -2, -1
 """What stands for the place of a flow's creditor: the world outside, and all banks of a block."""
