@@ -43,10 +43,10 @@ TIMEFORMAT='%R %U %S'
 MEMORY = """
 import resource
 from clearing_tools import cases, files
-from clearing_tools.report import gather
-words = gather.build_parser()
+from clearing_tools.report import command
+words = command.build_parser()
 asked = words.parse_args()
-files.write_all(gather.written_of(cases.take_case(words, asked), asked), [])
+files.write_all(command.written_of(cases.take_case(words, asked), asked), [])
 print(resource.getrusage(resource.RUSAGE_SELF).ru_maxrss / 1000)
 """
 READY = "const t = performance.getEntriesByType('navigation')[0]; return t.loadEventEnd / 1000"

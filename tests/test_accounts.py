@@ -49,8 +49,6 @@ PLANTED = {
 }
 # Lines of the account in the page, which adds together the debtors behind the first few.
 LINES = """
-// What the page measures text with is asked for at once.
-globalThis.document = { createElement: () => ({ getContext: () => null }) };
 const { linesOf } = await import(%s);
 let text = "";
 for await (const part of process.stdin) text += part;

@@ -97,7 +97,7 @@ PLACES = {
     ("clearing_tools/finding.py", "built"): "the repository's script",
     ("clearing_tools/evidence/source.py", "run_tool"): "Python",
     ("clearing_client/program.py", "started"): "the program",
-    ("clearing_tools/report/document.py", "in_browser"): "the browser that on_path finds",
+    ("clearing_tools/report/browser.py", "in_browser"): "the browser that on_path finds",
     ("clearing_tools/many/job.py", "status_of"): "the program",
     ("clearing_tools/many/command.py", "check_program"): "the repository's script",
     ("clearing_client/program.py", "find_program"): "a file that CLEARING names",

@@ -162,8 +162,8 @@ class Install(Case):
         zipfile.ZipFile(self.folder / build.build_wheel(self.folder)).extractall(self.folder / "there")
         python, there = python_with("jinja2", "bottle"), {**os.environ, "PYTHONPATH": str(self.folder / "there")}
         code = (
-            "import sys\nfrom clearing_tools.report import gather\nassert"
-            " gather.__file__.startswith(sys.argv.pop(1))\nsys.exit(gather.main())"
+            "import sys\nfrom clearing_tools.report import command\nassert"
+            " command.__file__.startswith(sys.argv.pop(1))\nsys.exit(command.main())"
         )
         report = self.folder / "report.html"
         files = ["--banks", CHAIN / "banks.csv", "--debts", CHAIN / "debts.csv", "--out", report]

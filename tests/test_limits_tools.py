@@ -18,7 +18,7 @@ from clearing_tools.drawing import blocks
 from clearing_tools.drawing import network as drawing
 from clearing_tools.evidence import audit, parts
 from clearing_tools.exports import tidy
-from clearing_tools.report import page, player, stands
+from clearing_tools.report import original, page, player, stands
 from clearing_tools.report import parts as report_parts
 from clearing_tools.report.charts import network, scenarios
 
@@ -325,8 +325,8 @@ class LargeReports(unittest.TestCase):
             (26 * [500_000], "wide", False, None), ([500_001], "standard", False, None),
         ):  # fmt: skip
             debts = [[f"A{at}", "B", "1", str(claim)] for at, claim in enumerate(claims)]
-            files = stands.Files(["name", "cash", "rule"], [["B", "1", "order"]], header, debts)
-            one = stands.Stands(program, files, ("b.csv", "d.csv"), [], None, limits)
+            files = original.Files(["name", "cash", "rule"], [["B", "1", "order"]], header, debts)
+            one = stands.Stands(original.Original(program, files, ("b.csv", "d.csv"), limits), [], None)
             self.assertEqual(one.may_double(), may, claims)
             if may:
                 one.by_unit(stands.HALF)

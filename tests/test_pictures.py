@@ -9,7 +9,7 @@ from common import ODD_NAMES, PROGRAM, ROOT, Case, clearing, needs_modules, pyth
 
 from clearing_tools.drawing import lettering  # noqa: E402
 from clearing_tools.labels import shown  # noqa: E402
-from clearing_tools.drawing.shortfalls import parts_owed  # noqa: E402
+from clearing_tools.drawing.shortfalls_picture import parts_owed  # noqa: E402
 from clearing_tools.texts import read_banks, read_outside, read_payments  # noqa: E402
 
 HUB = ["--banks", ROOT / "examples/hub/banks.csv", "--debts", ROOT / "examples/hub/debts.csv"]

@@ -83,7 +83,7 @@ class Documents(Report):
         words = [*map(str, files_of(TWELVE)), "--out", str(self.folder / "r.docx")]
         program = (
             f"import sys; sys.modules['docx'] = None; sys.argv = ['report.py', *{words!r}]; from clearing_tools.report"
-            " import gather; gather.main()"
+            " import command; command.main()"
         )
         from common import PACKAGES
 

@@ -228,7 +228,7 @@ class TheFile(Report):
         words = [*map(str, files_of(TWELVE)), "--out", str(self.folder / "r.html")]
         program = (
             f"import sys; sys.modules['jinja2'] = None; sys.argv = ['report.py', *{words!r}]; from"
-            " clearing_tools.report import gather; gather.main()"
+            " clearing_tools.report import command; command.main()"
         )
         done = subprocess.run([PYTHON, "-B", "-c", program], cwd=PACKAGES, capture_output=True, encoding="utf-8")
         self.assertEqual((done.returncode, done.stdout), (2, ""))
@@ -264,7 +264,7 @@ class TheFile(Report):
         words = [*map(str, files_of(TWELVE)), "--out", str(out)]
         program = (
             f"import sys; sys.argv = ['report.py', *{words!r}]; from clearing_tools.drawing import web;"
-            " from clearing_tools.report import gather; web.D3 = []; gather.main()"
+            " from clearing_tools.report import command; web.D3 = []; command.main()"
         )
         done = subprocess.run([PYTHON, "-B", "-c", program], cwd=PACKAGES, capture_output=True, encoding="utf-8")
         self.assertEqual((done.returncode, done.stdout), (0, ""))

@@ -1,4 +1,4 @@
-// The modules of the desk's page that need no page, by node's own runner: node --test tests/script/desk.test.mjs
+// The modules of the pages that need no page, by node's own runner: node --test tests/script/desk.test.mjs
 import assert from "node:assert/strict";
 import fs from "node:fs";
 import os from "node:os";
@@ -15,14 +15,22 @@ for (const part of ["drawing/web/script", "desk/script"]) {
 }
 process.on("exit", () => fs.rmSync(folder, { recursive: true }));
 const load = (name) => import(pathToFileURL(path.join(folder, `${name}.mjs`)).href);
-const { Money, apart, cut, listed, many, minus, number, signed, word } = await load("numbers");
+const { apart, many, minus, number, signed } = await load("texts");
+const { cut, listed, word } = await load("sentences");
+const { Money } = await load("money");
 const compare = await load("compare");
-const { aligned, atGreatest, changedBanks, differs, fallen, rows, saved, sorted } = compare;
-const { soundAtGreatest, sums, told } = compare;
+const { atGreatest, differs, fallen, rows, saved, soundAtGreatest, sorted, sums } = compare;
+const { aligned } = await load("othercase");
+const { changedBanks } = await load("changed");
+const { told } = await load("title");
 const { Pairs, flowsOf } = await load("pairs");
 const { Line } = await load("line");
 const { matches } = await load("find");
 const { newest } = await load("newest");
+const { blocksOf, calledIn } = await load("blocks");
+const { Amounts } = await load("amounts");
+const { Ledger } = await load("ledger");
+const { wordsOf } = await load("steps");
 
 /** A state of banks, each with its state, cash, owed, paid and equity. */
 const view = (...banks) => {
@@ -247,11 +255,12 @@ test("the sums add up", () => {
 
 test("the title says who joins those in default, and what more is unpaid", () => {
   const say = (units) => `${units}`;
-  const title = (before, now, isSame = false) => told(before, now, isSame, (bank) => NAMES[bank], say);
+  const name = (bank) => NAMES[bank];
+  const title = (before, now, isSame = false) => told(before, now, isSame, { name, say });
   assert.equal(title(BASE, NOW), "A joins those in default; B is in default no more; 1 less stays unpaid");
   assert.equal(title(BASE, BASE, true), "Two of four banks are in default; 11 stays unpaid");
-  const inUnits = (before, now, isSame) => told(before, now, isSame, (bank) => NAMES[bank], (units) =>
-    `${units} ${units === 1 ? "unit" : "units"}`);
+  const units = (count) => `${count} ${count === 1 ? "unit" : "units"}`;
+  const inUnits = (before, now, isSame) => told(before, now, isSame, { name, say: units });
   assert.equal(
     inUnits(BASE, NOW, false),
     "A joins those in default; B is in default no more; 1 unit less stays unpaid",
@@ -339,4 +348,61 @@ test("banks are found by name or label, the nearest first", () => {
   assert.deepEqual(matches(names, labels, "kem", 2), [2, 0]);
   const many = Array.from({ length: 1000 }, (_, at) => `bank ${at}`);
   assert.deepEqual(matches(many, many.map(() => ""), "bank 777"), [777]);
+});
+
+test("blocks are called by their groups, by their one bank, or by the ranks of their banks", () => {
+  const groups = blocksOf([0, 1, 2], ["a", "b", "a"], [1, 2, 3]);
+  assert.deepEqual(groups, [{ name: "a", banks: [0, 2] }, { name: "b", banks: [1] }]);
+  assert.deepEqual(calledIn(groups, ["X", "Y", "Z"]).map(({ whole }) => whole), ["a", "Y"]);
+  const banks = Array.from({ length: 41 }, (_, bank) => bank);
+  const sizes = blocksOf(banks, banks.map(() => ""), banks);
+  assert.deepEqual([sizes.length, sizes[0].banks, sizes.at(-1).banks], [20, [40, 39], [1, 0]]);
+  const called = calledIn(sizes, banks.map(String));
+  assert.deepEqual(called.slice(0, 3).map(({ whole }) => whole), ["1st to 2nd", "3rd to 4th", "5th to 6th"]);
+  assert.deepEqual(called[5], { whole: "11th to 12th", short: "11–12" });
+});
+
+test("amounts of the report are to the last digit", () => {
+  const thousands = new Amounts({ mantissa: "1000", places: 0, currency: "EUR", bare: false });
+  const cents = new Amounts({ mantissa: "1", places: 2, currency: null, bare: false });
+  const units = new Amounts({ mantissa: "1", places: 0, currency: null, bare: true });
+  assert.deepEqual([thousands.money(5), thousands.worth(5)], ["EUR 5,000", 5000]);
+  assert.deepEqual([cents.number(-105), cents.money(123_456_789)], ["−1.05", "1,234,567.89"]);
+  assert.deepEqual([1, 2].map((count) => units.money(count)), ["1 unit", "2 units"]);
+});
+
+test("a step of a journal is applied and told", () => {
+  const journal = {
+    names: ["A", "B"],
+    full: { 1: "Bank B" },
+    cash: [5, 0],
+    owed: [7, 0],
+    outside: [2, 0],
+    outsideFlow: [1, -1],
+    debts: [0, 1, 1, 7],
+    flowOf: [0],
+    flows: [[0, 1, 7, 3], [0, -2, 2, 2]],
+    frames: [[2, 2, 1, 1, 1, [0, 3]]],
+  };
+  const amounts = new Amounts({ mantissa: "1", places: 0, currency: null, bare: true });
+  const ledger = new Ledger(journal);
+  ledger.apply(journal.frames[0]);
+  ledger.payOutside();
+  assert.deepEqual([ledger.paid, ledger.given, ledger.receipts, ledger.paidOn], [[3], [3, 0], [0, 3], [3, 2]]);
+  assert.deepEqual([ledger.has(0), ledger.has(1), ledger.total], [5, 3, 3]);
+  const told = wordsOf({ journal, amounts, ledger, risen: [0, 3] }, 1);
+  assert.equal(
+    told.raise.replace(/[\u2068\u2069]/g, ""),
+    "Raise 1 of 1, stamp 1: A has now paid Bank B 3 units of 7 units in class 1. "
+      + "A then had 5 units, of which 2 units owed outside comes first. Nobody can pay more.",
+  );
+  assert.equal(told.line, "line 2: 1,A,B,1,3");
+  const many_ = { ...journal, frames: [[2, 9, 1, 4, 8, [0, 3]], [10, 10, 5, 5, 1, [0, 4]]] };
+  assert.equal(
+    wordsOf({ journal: many_, amounts, ledger, risen: [0, 3, 4] }, 1).raise,
+    "Step 1 of 2: 8 raises of stamps 1 to 4, lines 2 to 9 of the journal, by 3 units in all.",
+  );
+  assert.equal(wordsOf({ journal, amounts, ledger, risen: [0, 3] }, 0).raise, "Nothing is paid yet.");
+  ledger.reset();
+  assert.equal(ledger.total, 0);
 });

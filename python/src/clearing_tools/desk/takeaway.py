@@ -124,7 +124,7 @@ class Takeaway:
             words += ["--currency", desk.money.currency]
         title = self.name_of(state)
         words += ["--title", f"{desk.case.title}: {title}" if desk.case.title else title, "--out", "report.html"]
-        self.run_tool(place, "report.gather", [*words, *self.changes_words(place, state)])
+        self.run_tool(place, "report.command", [*words, *self.changes_words(place, state)])
         return (place.path / "report.html").read_bytes()
 
     def evidence(self, place: Place, state: State) -> bytes:

@@ -8,7 +8,7 @@ from clearing_client.records import Payment
 
 from .. import runner, texts
 from ..drawing import network
-from ..drawing.ring import Drawn
+from ..drawing.drawn import Drawn
 from ..fullnames import FullNames
 from ..money import Money
 from ..report import journal, player

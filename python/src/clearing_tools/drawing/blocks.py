@@ -6,17 +6,22 @@ import math
 from typing import Dict, List, NamedTuple, Sequence, Set, Tuple
 
 from .. import runner
-from ..labels import count, say_bank, say_flow
-from ..money import Money, Scale
+from ..labels import count, say_flow
 from ..texts import Bank, Flow, shortfall_of
 from . import lettering, svg
-from .ring import Drawn, Link, Say, sample, states_in, unpaid_on
+from .drawn import Drawn, Legend, Speech, sample, states_in, unpaid_on
 
-NAMED = 12
-CELL, SIZE = 36.0, 12
-MOST_LEFT, MOST_TOP, LEAN = 196.0, 140.0, 50
-LEAST_SIDE = 3.0
+NAMED = 12  # debtors, and creditors, by name
+CELL, GAP, SIZE = 36.0, 4, 12  # the side of a cell, what is free of it, and the size of letters, in pixels
+MOST_LEFT, MOST_TOP, LEAN = 196.0, 140.0, 50  # what names of rows and columns take, and how far these lean, in degrees
+BESIDE, ABOVE = 34, 24  # what stands beside the name of a row, and above that of a column
+MARK, TO_MARK, TO_NAME = 5.6, 14, 28  # the radius of a mark, and from the cells to it and to the name of a row
+TO_COLUMN, COLUMN_BASE, EDGE = 8, 3, 16  # from the cells to the name of a column, from its middle, and above it
+BASE = 4  # from the middle of a row down to the line of its words
+AMOUNT, LEAST_AMOUNTS = 8, 96.0  # from the cells to what a row leaves unpaid, and what these amounts take at least
+LEAST_SIDE = 3.0  # of a square
 MOST_TIMES = 4  # so many times the largest square of a debtor by name may be what the scale holds
+SINE = math.sin(math.radians(LEAN))
 # Blocks of the other banks in default, of those that stand, and of the world outside; no bank has such a name.
 DEFAULT, STAND, OUTSIDE = "\n", "\n\n", "\n\n\n"
 
@@ -58,10 +63,8 @@ def blocks_of(flows: Sequence[Flow], banks: Sequence[Bank]) -> Tuple[Block, Bloc
 class Matrix:
     """The drawing of a matrix, part by part."""
 
-    def __init__(
-        self, flows: Sequence[Flow], banks: Sequence[Bank], money: Money, scale: Scale, link: Link, say: Say
-    ) -> None:
-        self.money, self.scale, self.link, self.say = money, scale, link, say
+    def __init__(self, flows: Sequence[Flow], banks: Sequence[Bank], speech: Speech) -> None:
+        self.speech = speech
         self.banks = {bank.name: bank for bank in banks}
         rows, columns = blocks_of(flows, banks)
         self.rows, self.columns = rows.all(), columns.all()
@@ -75,8 +78,8 @@ class Matrix:
         self.flows = self.summed(flows)
         self.largest = max(map(unpaid_on, self.flows), default=0)
         self.most = self.scaled(set(rows.names))
-        self.left = min(34 + self.widest("row", self.rows), MOST_LEFT)
-        self.top = min(24 + self.widest("column", self.columns) * math.sin(math.radians(LEAN)), MOST_TOP)
+        self.left = min(BESIDE + self.widest("row", self.rows), MOST_LEFT)
+        self.top = min(ABOVE + self.widest("column", self.columns) * SINE, MOST_TOP)
 
     def widest(self, way: str, names: Sequence[str]) -> float:
         """How wide the widest of some names is."""
@@ -106,79 +109,66 @@ class Matrix:
 
     def called(self, way: str, name: str) -> str:
         """What a row or a column is called."""
-        return self.words.get((way, name)) or self.say(name)
+        return self.words.get((way, name)) or self.speech.say(name)
 
     def ground(self) -> str:
         """The lines between rows and between columns."""
         right, bottom = self.left + CELL * len(self.columns), self.top + CELL * len(self.rows)
         lines = [f"M{self.left + CELL * at:.0f} {self.top:.0f}V{bottom:.0f}" for at in range(len(self.columns) + 1)]
         lines += [f"M{self.left:.0f} {self.top + CELL * at:.0f}H{right:.0f}" for at in range(len(self.rows) + 1)]
-        return f'<path class="grid" d="{"".join(lines)}"/>'
+        return svg.element("path", {"class": "grid", "d": "".join(lines)})
+
+    def name(self, way: str, name: str, width: float, where: svg.Attributes) -> str:
+        """The name of a row or a column, no wider than that, with the whole of it on pointing."""
+        whole = runner.shown(self.called(way, name))
+        short = lettering.cut(whole, width, SIZE, True)
+        title = svg.title_of(whole) if short != whole else ""
+        return svg.element("text", {"class": "nm2", **where}, svg.text_of(short), title)
 
     def column(self, at: int, name: str) -> str:
         """The name above a column, which leans."""
-        whole = runner.shown(self.called("column", name))
-        short = lettering.cut(whole, (self.top - 16) / math.sin(math.radians(LEAN)), SIZE, True)
-        title = f"<title>{svg.text_of(whole)}</title>" if short != whole else ""
-        where = f'transform="translate({self.left + CELL * (at + 0.5) + 3:.1f} {self.top - 8:.1f}) rotate({-LEAN})"'
-        return f'<text class="nm2" {where}>{svg.text_of(short)}{title}</text>'
+        x, y = self.left + CELL * (at + 0.5) + COLUMN_BASE, self.top - TO_COLUMN
+        where = {"transform": f"translate({svg.numbers(x, y)}) rotate({-LEAN})"}
+        return self.name("column", name, (self.top - EDGE) / SINE, where)
 
     def row(self, at: int, name: str) -> str:
         """The name beside a row with the mark of its bank, and what it leaves unpaid behind the row."""
         y = self.top + CELL * (at + 0.5)
-        whole = runner.shown(self.called("row", name))
-        short = lettering.cut(whole, self.left - 34, SIZE, True)
-        title = f"<title>{svg.text_of(whole)}</title>" if short != whole else ""
-        text = (
-            f'<text class="nm2" x="{self.left - 28:.1f}" y="{y + 4:.1f}" text-anchor="end">'
-            f"{svg.text_of(short)}{title}</text>"
-        )
+        where: svg.Attributes = {"x": self.left - TO_NAME, "y": y + BASE, "text-anchor": "end"}
+        text = self.name("row", name, self.left - BESIDE, where)
         unpaid = sum(unpaid_on(flow) for flow in self.flows if flow.debtor == name)
-        amount = (
-            f'<text class="un" x="{self.left + CELL * len(self.columns) + 8:.1f}"'
-            f' y="{y + 4:.1f}">{svg.text_of(self.scale.number(unpaid))}</text>'
-        )
+        place: svg.Attributes = {"class": "un", "x": self.left + CELL * len(self.columns) + AMOUNT, "y": y + BASE}
+        amount = svg.element("text", place, svg.text_of(self.speech.scale.number(unpaid)))
         bank = self.banks.get(name)
         if bank is None:
             return text + amount
-        body = svg.mark(bank.state, self.left - 14, y, 5.6, f"m-{bank.state} n-mark") + text
-        title_of_bank = f"<title>{svg.text_of(say_bank(bank._replace(name=self.say(name)), self.money))}</title>"
-        target = self.link(bank) if self.link else ""
-        linked = (
-            f'<a href="#{target}" data-bank="{target.removeprefix("bank-")}">{title_of_bank}{body}</a>'
-            if target
-            else f"<g>{title_of_bank}{body}</g>"
-        )
-        return linked + amount
+        mark = svg.mark(bank.state, self.left - TO_MARK, y, MARK, f"m-{bank.state} n-mark")
+        return self.speech.node(bank, mark + text) + amount
 
     def square(self, at: int, flow: Flow) -> str:
         """What stays unpaid from a row to a column."""
         unpaid = unpaid_on(flow)
-        side = max(LEAST_SIDE, (CELL - 4) * math.sqrt(min(1.0, unpaid / self.most))) if unpaid else LEAST_SIDE
+        side = max(LEAST_SIDE, (CELL - GAP) * math.sqrt(min(1.0, unpaid / self.most))) if unpaid else LEAST_SIDE
         kind = " done" if not unpaid else " over" if unpaid > self.most else ""
-        may = ' data-over=""' if self.largest > self.most else ""
         x = self.left + CELL * (self.columns.index(str(flow.creditor)) + 0.5)
         y = self.top + CELL * (self.rows.index(flow.debtor) + 0.5)
         debtor, creditor = self.called("row", flow.debtor), self.called("column", str(flow.creditor))
-        called = flow._replace(debtor=debtor, creditor=creditor)
-        return (
-            f'<g class="flow cell{kind}" data-flow="{at}"{may} data-middle="{x:.1f} {y:.1f}">'
-            f"<title>{svg.text_of(say_flow(called, self.money))}</title>"
-            f'<rect class="sq" x="{x - side / 2:.1f}" y="{y - side / 2:.1f}" width="{side:.1f}"'
-            f' height="{side:.1f}"/></g>'
-        )
+        called = say_flow(flow._replace(debtor=debtor, creditor=creditor), self.speech.money)
+        may_be_over = {"data-over": ""} if self.largest > self.most else {}
+        middle = svg.numbers(x, y)
+        group: svg.Attributes = {"class": f"flow cell{kind}", "data-flow": at, **may_be_over, "data-middle": middle}
+        box: svg.Attributes = {"x": x - side / 2, "y": y - side / 2, "width": side, "height": side}
+        return svg.element("g", group, svg.title_of(called), svg.element("rect", {"class": "sq", **box}))
 
     def box(self) -> List[float]:
         """The box that the matrix fills, with room for the last name that leans and for the amounts."""
-        wide = max((lettering.width_of(self.scale.number(sum(map(unpaid_on, self.flows))), SIZE)), 96.0)
+        wide = max(lettering.width_of(self.speech.scale.number(sum(map(unpaid_on, self.flows))), SIZE), LEAST_AMOUNTS)
         return [0.0, 0.0, self.left + CELL * len(self.columns) + wide + 12, self.top + CELL * len(self.rows) + 6]
 
 
-def draw(
-    flows: Sequence[Flow], banks: Sequence[Bank], money: Money, scale: Scale, link: Link = None, say: Say = str
-) -> Drawn:
-    """The network as a matrix by blocks; amounts are written in the scale."""
-    matrix = Matrix(flows, banks, money, scale, link, say)
+def draw(flows: Sequence[Flow], banks: Sequence[Bank], speech: Speech) -> Drawn:
+    """The network as a matrix by blocks."""
+    matrix = Matrix(flows, banks, speech)
     body = [matrix.ground()]
     body += [matrix.column(at, name) for at, name in enumerate(matrix.columns)]
     body += [matrix.row(at, name) for at, name in enumerate(matrix.rows)]
@@ -188,21 +178,26 @@ def draw(
     return Drawn("".join(body), matrix.box(), legend, flows_drawn, matrix.row_of, matrix.column_of, matrix.most)
 
 
-def legend_of(matrix: Matrix, banks: Sequence[Bank]) -> List[Tuple[str, str]]:
+def square_sample(kind: str, side: int = svg.MARK - 2) -> str:
+    """A sample of a square of a kind."""
+    at = (svg.MARK - side) // 2
+    square = svg.element("rect", {"class": "sq", "x": at, "y": at, "width": side, "height": side})
+    return sample(svg.element("g", {"class": f"cell{kind}"}, square), svg.MARK)
+
+
+def legend_of(matrix: Matrix, banks: Sequence[Bank]) -> Legend:
     """What the squares and marks of a matrix mean."""
     shown = [bank for bank in banks if bank.name in matrix.rows]
     unpaid = sum(shortfall_of(bank) > 0 for bank in banks)
-    square = sample('<g class="cell"><rect class="sq" x="1" y="1" width="14" height="14"/></g>', 16)
-    paid = sample('<g class="cell done"><rect class="sq" x="6" y="6" width="4" height="4"/></g>', 16)
-    over = sample('<g class="cell over"><rect class="sq" x="1" y="1" width="14" height="14"/></g>', 16)
-    most = f"; the largest is {matrix.money.in_short(matrix.most)}" if matrix.most else ""
-    more = f"unpaid by many together, more than the areas show: up to {matrix.money.in_short(matrix.largest)}"
+    money = matrix.speech.money
+    most = f"; the largest is {money.in_short(matrix.most)}" if matrix.most else ""
+    more = f"unpaid by many together, more than the areas show: up to {money.in_short(matrix.largest)}"
     named = f"the {len(shown)} with most unpaid, all others in two blocks"
     how_to_read = f"A row is a debtor, a column a creditor: {named}. "
     return [
-        (square, f"unpaid; area: the amount{most}"),
-        *[(over, more)] * (matrix.largest > matrix.most),
-        (paid, "owed, and paid in full"),
+        (square_sample(""), f"unpaid; area: the amount{most}"),
+        *[(square_sample(" over"), more)] * (matrix.largest > matrix.most),
+        (square_sample(" done", 4), "owed, and paid in full"),
         *states_in(shown),
         ("", how_to_read + f"Of {count(len(banks), 'bank')} {unpaid:,} leave something unpaid."),
     ]

@@ -4,10 +4,14 @@ from typing import Optional, Sequence
 from ..money import Money, Scale
 from ..texts import Bank, Flow, shortfall_of
 from . import blocks, lettering, ring, svg
-from .ring import MOST_BANKS, Drawn, Link, Say, unpaid_on
+from .drawn import Drawn, Link, Say, Speech, unpaid_on
+from .ring import MOST_BANKS
 
 FORMS = ("graph", "matrix")
-TITLE, BELOW, WORDS = 18, 14, 12
+TITLE, BELOW, WORDS = 18, 14, 12  # the sizes of letters, in pixels
+TITLE_STEP, BELOW_STEP, WORDS_STEP = 24, 19, 17  # from line to line
+MOST_LINES = 4  # of a text
+LEAST_WIDE, EDGE, FIRST, LEGEND = 560, 16, 28.0, 56  # the least width, the margin, the first line, words of the legend
 
 
 def is_small(banks: Sequence[Bank]) -> bool:
@@ -32,28 +36,38 @@ def drawing_of(
     what a bank of a name is called."""
     form = form or ("graph" if is_small(banks) else "matrix")
     work = ring.draw if form == "graph" else blocks.draw
-    return work(flows, banks, money, scale_for(flows, banks, money), link, say)
+    return work(flows, banks, Speech(money, scale_for(flows, banks, money), link, say))
+
+
+def texts_on(chart: svg.Svg, lines: Sequence[str], at: float, x: float, kind: str, step: int) -> float:
+    """Writes lines of a text below each other, and answers where the next one stands."""
+    for line in lines:
+        chart.text(x, at, line, kind)
+        at += step
+    return at
 
 
 def picture(drawn: Drawn, title: str, below: str, theme: str = "light") -> str:
     """A whole SVG file: the title, the unit below it, the drawing, and the legend."""
     x0, y0, x1, y1 = drawn.box
-    wide = max(x1 - x0, 560) + 32
-    chart = svg.Svg(wide, 0, title, "net chart")
-    at = 28.0
-    for text, size, kind, step in ((title, TITLE, "tt", 24), (below, BELOW, "sub", 19)):
-        for line in lettering.lines_of(text.replace("\u00a0", " "), wide - 32, size, kind == "tt", 4):
-            chart.text(16, at, line, kind)
-            at += step
+    wide = max(x1 - x0, LEAST_WIDE) + 2 * EDGE
+    inner = wide - 2 * EDGE
+    chart, at = svg.Svg(wide, 0, title, "net chart"), FIRST
+    for text, size, kind, step in ((title, TITLE, "tt", TITLE_STEP), (below, BELOW, "sub", BELOW_STEP)):
+        lines = lettering.lines_of(plain(text), inner, size, kind == "tt", MOST_LINES)
+        at = texts_on(chart, lines, at, EDGE, kind, step)
     at += 4
-    chart.add(f'<g transform="translate({16 + (wide - 32 - (x1 - x0)) / 2 - x0:.1f} {at - y0:.1f})">{drawn.body}</g>')
+    chart.add(f'<g transform="translate({svg.numbers(EDGE + (inner - (x1 - x0)) / 2 - x0, at - y0)})">{drawn.body}</g>')
     at += y1 - y0 + 24
     for sample, words in drawn.legend:
         if sample:
-            chart.add(f'<g transform="translate(16 {at - 12:.1f})">{sample}</g>')
-        for line in lettering.lines_of(words.replace("\u00a0", " "), wide - 80, WORDS, False, 4):
-            chart.text(56, at, line, "sub")
-            at += 17
-        at += 3
+            chart.add(f'<g transform="translate({EDGE} {at - WORDS:.1f})">{sample}</g>')
+        lines = lettering.lines_of(plain(words), wide - LEGEND - 24, WORDS, False, MOST_LINES)
+        at = texts_on(chart, lines, at, LEGEND, "sub", WORDS_STEP) + 3
     chart.height = at
     return chart.whole(svg.style_of(theme), ground=True) + "\n"
+
+
+def plain(text: str) -> str:
+    """A text as a picture has it, which breaks lines at blanks alone: a number and its unit may part."""
+    return text.replace("\u00a0", " ")

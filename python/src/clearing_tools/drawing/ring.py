@@ -4,61 +4,33 @@ has the accent.
 The width of a debt is the amount that stays unpaid, the area of a bank what it leaves unpaid, both from zero; the
 least marks are a debt of 2 pixels and a bank of 12. The ten largest amounts are written."""
 import math
-from typing import Callable, Dict, List, NamedTuple, Optional, Sequence, Tuple
+from typing import Dict, List, Optional, Sequence, Tuple
 
-from .. import runner
-from ..labels import say_bank, say_flow
-from ..money import Money, Scale
 from ..texts import Bank, Flow, shortfall_of
 from . import lettering, svg
+from .curves import Curve, Place, Point, curve_of, flow_of, width_for
+from .drawn import Drawn, Legend, Speech, sample, states_in, unpaid_on
+from .ring_names import NOTE, STEP, Name, name_of, name_text, ray_text, spread
 
-WIDTH, HEIGHT = 752.0, 496.0
+WIDTH, HEIGHT, MORE_HEIGHT = 752.0, 496.0, 120  # of the picture; what names that stand across it take more
 RADIUS = 206.0
 MOST_BANKS = 40
 MOST_LEVEL = 16  # so many banks have names that are written level; more have names along the rays
 MOST_AMOUNTS = 10
-MOST_SIDE, LEAST_SIDE = 50.0, 12.0
-MOST_WIDTH, LEAST_WIDTH = 15.0, 2.0
+MOST_SIDE, LEAST_SIDE = 50.0, 12.0  # of a bank
+REACH, LEAST_REACH, MORE_REACH = 0.62, 0.6, 2  # how far a mark reaches, by its side: one of an area, and the least
+OUTSIDE = 18  # the side of the world outside
+ROUND, ROUND_SAMPLE = 4, 3  # the radius of its corners, and of those of its sample
+SOUND = 5.6  # the radius of a bank that pays all
+SIDE_TO_RADIUS = 1.78  # of the mark of a state
 BEND, BEND_BACK = 0.17, 0.07  # towards the middle; of two debts between two banks the second is bent less
-NAME, NOTE, STEP = 14, 12, 17
+ALONG = (0.5, 0.42, 0.58, 0.34, 0.66, 0.26, 0.74)  # where an amount may stand on its debt, the best first
+AMOUNT = (-8, 7)  # from the middle of an amount up and down
+BASE = 4  # from the middle of a word down to its line
+BELOW = 6  # below the last line of a name
 
-Say = Callable[[str], str]
-Link = Optional[Callable[[Bank], str]]
 Box = Tuple[float, float, float, float]
-
-
-class Place(NamedTuple):
-    """Where a bank stands: its middle, its direction from the middle of the ring, how far its mark reaches, and the
-    side of its square."""
-
-    x: float
-    y: float
-    angle: float
-    reach: float
-    side: float
-
-
-class Drawn(NamedTuple):
-    """A drawing of the network: its elements, the box that it fills, its legend (a sample and its words), and the
-    flows that it has by their numbers. Flows of many banks may be drawn as one: `rows` tell as whose flow a debtor's
-    is drawn, `columns` a creditor's. `most` is what the widest line or the largest area stands for."""
-
-    body: str
-    box: List[float]
-    legend: List[Tuple[str, str]]
-    flows: List[Flow]
-    rows: Dict[str, str]
-    columns: Dict[str, str]
-    most: int = 0
-
-    def flow_at(self) -> Dict[Tuple[str, Optional[str]], int]:
-        """The numbers of the flows by whose they are drawn."""
-        return {(flow.debtor, flow.creditor): at for at, flow in enumerate(self.flows)}
-
-
-def unpaid_on(flow: Flow) -> int:
-    """What stays unpaid of a flow."""
-    return flow.claim - flow.paid
+"""Left, top, right and bottom."""
 
 
 def side_of(bank: Bank, most: int) -> float:
@@ -69,7 +41,7 @@ def side_of(bank: Bank, most: int) -> float:
 
 def height_of(count: int) -> float:
     """How tall a ring of so many places is: one with many has names that stand across it."""
-    return HEIGHT if count <= MOST_LEVEL else HEIGHT + 120
+    return HEIGHT if count <= MOST_LEVEL else HEIGHT + MORE_HEIGHT
 
 
 def places_of(banks: Sequence[Bank], has_outside: bool) -> Dict[Optional[str], Place]:
@@ -79,77 +51,25 @@ def places_of(banks: Sequence[Bank], has_outside: bool) -> Dict[Optional[str], P
     names: List[Optional[str]] = [bank.name for bank in banks]
     sides = [side_of(bank, most) for bank in banks]
     if has_outside:
-        names, sides = [*names, None], [*sides, 18.0]
+        names, sides = [*names, None], [*sides, float(OUTSIDE)]
     tall = height_of(len(names))
     places: Dict[Optional[str], Place] = {}
     for at, (name, side) in enumerate(zip(names, sides)):
         angle = 2 * math.pi * at / max(len(names), 1) - math.pi / 2
-        reach = side * (0.62 if name is None or side > LEAST_SIDE else 0.6) + 2
+        reach = side * (REACH if name is None or side > LEAST_SIDE else LEAST_REACH) + MORE_REACH
         x, y = WIDTH / 2 + RADIUS * math.cos(angle), tall / 2 + RADIUS * math.sin(angle)
         places[name] = Place(x, y, angle, reach, side)
     return places
 
 
-# Debts.
+def box_about(point: Point, half: float) -> Box:
+    """A square about a point."""
+    return point[0] - half, point[1] - half, point[0] + half, point[1] + half
 
 
-class Curve(NamedTuple):
-    """A debt from one bank to another: where it begins, its bend, and the point of its arrow."""
-
-    start: Tuple[float, float]
-    bend: Tuple[float, float]
-    end: Tuple[float, float]
-
-    def at(self, t: float) -> Tuple[float, float]:
-        """A point of the curve."""
-        x, y = ((1 - t) ** 2 * a + 2 * t * (1 - t) * b + t * t * c for a, b, c in zip(self.start, self.bend, self.end))
-        return x, y
-
-    def paths(self, width: float) -> Tuple[str, str]:
-        """The line up to its arrow, and the arrow, for a line of this width. The player's script has the same."""
-        angle = math.atan2(self.bend[1] - self.end[1], self.bend[0] - self.end[0])
-        head = max(6.0, 0.95 * width + 5)
-        neck = self.end[0] + head * math.cos(angle), self.end[1] + head * math.sin(angle)
-        side = (width / 2 + 2.1) * -math.sin(angle), (width / 2 + 2.1) * math.cos(angle)
-        (ax, ay), (bx, by), (cx, cy) = self
-        line = f"M{ax:.1f} {ay:.1f}Q{bx:.1f} {by:.1f} {neck[0]:.1f} {neck[1]:.1f}"
-        left, right = (neck[0] + side[0], neck[1] + side[1]), (neck[0] - side[0], neck[1] - side[1])
-        return line, f"M{cx:.1f} {cy:.1f}L{left[0]:.1f} {left[1]:.1f}L{right[0]:.1f} {right[1]:.1f}z"
-
-
-def curve_of(start: Place, end: Place, middle: float, bent: float) -> Curve:
-    """The curve from the edge of one bank's mark to that of another's, bent towards the middle of the ring, which is
-    so far down."""
-    dx, dy = end.x - start.x, end.y - start.y
-    x, y = start.x + dx / 2, start.y + dy / 2
-    inwards = (middle - y) * dx - (WIDTH / 2 - x) * dy
-    turn = math.copysign(bent, inwards) if abs(inwards) > 1 else bent
-    bend = x - turn * dy, y + turn * dx
-    leave = math.atan2(bend[1] - start.y, bend[0] - start.x)
-    arrive = math.atan2(bend[1] - end.y, bend[0] - end.x)
-    begin = start.x + start.reach * 0.8 * math.cos(leave), start.y + start.reach * 0.8 * math.sin(leave)
-    tip = end.reach + 3
-    return Curve(begin, bend, (end.x + tip * math.cos(arrive), end.y + tip * math.sin(arrive)))
-
-
-def width_for(unpaid: int, most: int) -> float:
-    """The width of a debt of which so much stays unpaid, where the most is so much."""
-    return max(LEAST_WIDTH, MOST_WIDTH * min(1.0, unpaid / most)) if unpaid and most else 1.0
-
-
-def flow_of(at: int, flow: Flow, curve: Curve, width: float, title: str) -> str:
-    """A debt: a line and an arrow, with a gap about it where it is wide."""
-    line, tip = curve.paths(width)
-    kind = "flow" if unpaid_on(flow) else "flow done"
-    points = " ".join(f"{part:.1f}" for point in curve for part in point)
-    case = f'<path class="case" d="{line}" stroke-width="{width + 3:.1f}"/>'
-    return (
-        f'<g class="{kind}" data-flow="{at}" data-curve="{points}"><title>{svg.text_of(title)}</title>{case}'
-        f'<path class="line" d="{line}" stroke-width="{width:.1f}"/><path class="tip" d="{tip}"/></g>'
-    )
-
-
-# Names.
+def box_of_amount(point: Point, half: float) -> Box:
+    """The box of an amount at a point, by half of its width."""
+    return point[0] - half, point[1] + AMOUNT[0], point[0] + half, point[1] + AMOUNT[1]
 
 
 def overlaps(one: Box, other: Box) -> bool:
@@ -157,89 +77,36 @@ def overlaps(one: Box, other: Box) -> bool:
     return one[0] < other[2] and other[0] < one[2] and one[1] < other[3] and other[1] < one[3]
 
 
-class Name(NamedTuple):
-    """A name beside its bank: its lines with their classes, where it stands, and how."""
-
-    lines: List[Tuple[str, str]]
-    x: float
-    top: float
-    anchor: str
-    whole: str
-
-
-def name_of(place: Place, called: str, note: str) -> Name:
-    """A name that is written level, outwards of its bank."""
-    side = math.cos(place.angle)
-    anchor = "middle" if abs(side) < 0.2 else "start" if side > 0 else "end"
-    x = place.x + (0 if anchor == "middle" else math.copysign(place.reach + 8, side))
-    room = {"start": WIDTH - 2 - x, "end": x - 2, "middle": 170.0}[anchor]
-    called = runner.shown(called)
-    lines = [(line, "nm") for line in lettering.lines_of(called, room, NAME, True)] + (
-        [(note, "un")] if note else []
-    )
-    tall = STEP * len(lines)
-    if anchor == "middle":
-        top = place.y - place.reach - tall + 8 if math.sin(place.angle) < 0 else place.y + place.reach + 15
-    else:
-        top = place.y + 5 - STEP * (len(lines) - 1) / 2
-    return Name(lines, x, top, anchor, called)
-
-
-def spread(names: List[Name]) -> List[Name]:
-    """The names of a side, from the top down, moved apart where they would overlap."""
-    moved: List[Name] = []
-    for name in sorted(names, key=lambda name: name.top):
-        least = moved[-1].top + STEP * len(moved[-1].lines) + 2 if moved else -math.inf
-        moved.append(name._replace(top=max(name.top, least)))
-    return moved
-
-
-def name_text(name: Name) -> str:
-    """A name as text, with the whole of it on pointing."""
-    shown = " ".join(line for line, kind in name.lines if kind == "nm")
-    whole = f"<title>{svg.text_of(name.whole)}</title>" if shown != name.whole else ""
-    return "".join(
-        f'<text x="{name.x:.1f}" y="{name.top + STEP * at:.1f}" class="{kind}"'
-        f' text-anchor="{name.anchor}">{svg.text_of(line)}{whole}</text>'
-        for at, (line, kind) in enumerate(name.lines)
+def outside_mark(x: float, y: float, side: int, round_: int) -> str:
+    """The mark of the world outside, by its upper left corner."""
+    return svg.element(
+        "rect", {"class": "n-outside", "x": x, "y": y, "width": side, "height": side, "rx": round_}
     )
 
 
-def ray_text(place: Place, called: str, note: str) -> str:
-    """A name along the ray of its bank, where there are many."""
-    turned = math.cos(place.angle) < -1e-9
-    degrees = math.degrees(place.angle) + (180 if turned else 0)
-    far = place.reach + 6
-    x, y = place.x + far * math.cos(place.angle), place.y + far * math.sin(place.angle)
-    called = runner.shown(called)
-    short = lettering.cut(called, 118 - (lettering.width_of(note, NOTE) + 5 if note else 0), NOTE, True)
-    whole = f"<title>{svg.text_of(called)}</title>" if short != called else ""
-    amount = f'<tspan class="un"> {svg.text_of(note)}</tspan>' if note else ""
-    where = f'transform="translate({x:.1f} {y:.1f}) rotate({degrees:.1f})" text-anchor="{"end" if turned else "start"}"'
-    return f'<text class="nm2" dy="4" {where}>{svg.text_of(short)}{amount}{whole}</text>'
-
-
-# The whole.
+def amount_at(point: Point, word: str) -> str:
+    """An amount in words at a point of its debt."""
+    x, y = point
+    where: svg.Attributes = {"x": x, "y": y + BASE, "class": "amt", "text-anchor": "middle"}
+    return svg.element("text", where, svg.text_of(word))
 
 
 class Ring:
     """The drawing of a ring, part by part."""
 
-    def __init__(
-        self, flows: Sequence[Flow], banks: Sequence[Bank], money: Money, scale: Scale, link: Link, say: Say
-    ) -> None:
-        self.flows, self.banks = list(flows), banks
-        self.money, self.scale, self.link, self.say = money, scale, link, say
+    def __init__(self, flows: Sequence[Flow], banks: Sequence[Bank], speech: Speech) -> None:
+        self.flows, self.banks, self.speech = list(flows), banks, speech
         self.places = places_of(banks, any(flow.creditor is None for flow in flows))
         self.most = max(map(unpaid_on, flows), default=0)
         self.is_level = len(self.places) <= MOST_LEVEL
+        self.notes: Dict[Optional[str], str] = {bank.name: self.note(bank) for bank in banks}
         self.laid = self.level_names() if self.is_level else {}
         self.curves = self.curves_of()
 
     def curves_of(self) -> List[Curve]:
         """The curves of the flows; of two between two banks the one of which less stays unpaid is bent less."""
         unpaid = {(flow.debtor, flow.creditor): (unpaid_on(flow), flow.debtor) for flow in self.flows}
-        middle, curves = height_of(len(self.places)) / 2, []
+        middle, curves = (WIDTH / 2, height_of(len(self.places)) / 2), []
         for flow in self.flows:
             back = unpaid.get((flow.creditor or "", flow.debtor))
             bent = BEND_BACK if back is not None and back > unpaid[flow.debtor, flow.creditor] else BEND
@@ -248,62 +115,57 @@ class Ring:
 
     def debts(self) -> str:
         """The debts, those that are paid first, and thin above wide."""
-        order = sorted(
-            range(len(self.flows)), key=lambda at: (unpaid_on(self.flows[at]) > 0, unpaid_on(self.flows[at]))
-        )
-        parts = []
-        for at in order:
-            flow = self.flows[at]
-            called = flow._replace(
-                debtor=self.say(flow.debtor), creditor=None if flow.creditor is None else self.say(flow.creditor)
-            )
-            parts.append(
-                flow_of(at, flow, self.curves[at], width_for(unpaid_on(flow), self.most), say_flow(called, self.money))
-            )
-        return "".join(parts)
+
+        def rank(at: int) -> Tuple[bool, int]:
+            return unpaid_on(self.flows[at]) > 0, unpaid_on(self.flows[at])
+
+        return "".join(map(self.debt, sorted(range(len(self.flows)), key=rank)))
+
+    def debt(self, at: int) -> str:
+        """A debt by its place."""
+        flow = self.flows[at]
+        width = width_for(unpaid_on(flow), self.most)
+        return flow_of(at, flow, self.curves[at], width, self.speech.flow(flow))
 
     def amounts(self) -> str:
         """The largest amounts, each on its debt where there is room."""
-        largest = sorted(
-            (at for at in range(len(self.flows)) if unpaid_on(self.flows[at])),
-            key=lambda at: -unpaid_on(self.flows[at]),
-        )
-        boxes = [
-            (place.x - place.side / 2, place.y - place.side / 2, place.x + place.side / 2, place.y + place.side / 2)
-            for place in self.places.values()
-        ]
+        unpaid = [at for at in range(len(self.flows)) if unpaid_on(self.flows[at])]
+        largest = sorted(unpaid, key=lambda at: -unpaid_on(self.flows[at]))[:MOST_AMOUNTS]
+        taken = [box_about((place.x, place.y), place.side / 2) for place in self.places.values()]
         parts = []
-        for at in largest[:MOST_AMOUNTS]:
-            word = self.scale.number(unpaid_on(self.flows[at]))
-            half = lettering.width_of(word, NOTE, True) / 2 + 4
-            for t in (0.5, 0.42, 0.58, 0.34, 0.66, 0.26, 0.74):
-                x, y = self.curves[at].at(t)
-                box = (x - half, y - 8, x + half, y + 7)
-                if not any(overlaps(box, other) for other in boxes):
-                    boxes.append(box)
-                    parts.append(
-                        f'<text x="{x:.1f}" y="{y + 4:.1f}" class="amt" text-anchor="middle">{svg.text_of(word)}</text>'
-                    )
-                    break
+        for at in largest:
+            word = self.speech.scale.number(unpaid_on(self.flows[at]))
+            half = lettering.width_of(word, NOTE, True) / 2 + BASE
+            free = self.free_point(at, half, taken)
+            if free is not None:
+                taken.append(box_of_amount(free, half))
+                parts.append(amount_at(free, word))
         return "".join(parts)
+
+    def free_point(self, at: int, half: float, taken: Sequence[Box]) -> Optional[Point]:
+        """Where on a debt an amount stands over no other and over no bank; nothing where there is no such place."""
+        points = map(self.curves[at].at, ALONG)
+        return next(
+            (point for point in points if not any(overlaps(box_of_amount(point, half), other) for other in taken)), None
+        )
 
     def note(self, bank: Bank) -> str:
         """What stands beside a bank's name: what it leaves unpaid."""
         if bank.state == "sound":
             return ""
         unpaid = shortfall_of(bank)
-        word = self.scale.number(unpaid)
+        word = self.speech.scale.number(unpaid)
         return f"{word} unpaid" if self.is_level and unpaid else word if unpaid else "in default"
 
     def called(self, name: Optional[str]) -> str:
         """What a bank is called, or the world outside."""
-        return "outside" if name is None else self.say(name)
+        return "outside" if name is None else self.speech.say(name)
 
     def level_names(self) -> Dict[Optional[str], Name]:
         """The names that are written level, by the banks, on each side moved apart."""
-        notes: Dict[Optional[str], str] = {bank.name: self.note(bank) for bank in self.banks}
         names = {
-            name: name_of(place, self.called(name), notes.get(name, "")) for name, place in self.places.items()
+            name: name_of(place, self.called(name), self.notes.get(name, ""), WIDTH)
+            for name, place in self.places.items()
         }
         for anchor in ("start", "end"):
             side = [name for name in names if names[name].anchor == anchor]
@@ -315,83 +177,51 @@ class Ring:
         """The names as text, by the banks."""
         if self.is_level:
             return {name: name_text(one) for name, one in self.laid.items()}
-        notes: Dict[Optional[str], str] = {bank.name: self.note(bank) for bank in self.banks}
-        return {name: ray_text(place, self.called(name), notes.get(name, "")) for name, place in self.places.items()}
+        return {
+            name: ray_text(place, self.called(name), self.notes.get(name, "")) for name, place in self.places.items()
+        }
 
     def nodes(self) -> str:
-        """The banks, each with its name, a link where there is something to link to."""
-        names, parts = self.names(), []
-        for bank in self.banks:
-            place = self.places[bank.name]
-            radius = place.side / 1.78 if bank.state != "sound" else 5.6
-            body = svg.mark(bank.state, place.x, place.y, radius, f"n n-{bank.state}") + names[bank.name]
-            title = f"<title>{svg.text_of(say_bank(bank._replace(name=self.say(bank.name)), self.money))}</title>"
-            target = self.link(bank) if self.link else ""
-            parts.append(
-                f'<a href="#{target}" data-bank="{target.removeprefix("bank-")}">{title}{body}</a>'
-                if target
-                else f"<g>{title}{body}</g>"
-            )
+        """The banks, each with its name, a link where there is something to link to; and the world outside."""
+        names = self.names()
+        parts = [self.node(bank, names[bank.name]) for bank in self.banks]
         if None in self.places:
             place = self.places[None]
-            parts.append(
-                f'<rect class="n-outside" x="{place.x - 9:.1f}" y="{place.y - 9:.1f}" width="18"'
-                f' height="18" rx="4"/>{names[None]}'
-            )
+            parts.append(outside_mark(place.x - OUTSIDE / 2, place.y - OUTSIDE / 2, OUTSIDE, ROUND) + names[None])
         return "".join(parts)
+
+    def node(self, bank: Bank, name: str) -> str:
+        """A bank with its name."""
+        place = self.places[bank.name]
+        radius = place.side / SIDE_TO_RADIUS if bank.state != "sound" else SOUND
+        return self.speech.node(bank, svg.mark(bank.state, place.x, place.y, radius, f"n n-{bank.state}") + name)
 
     def box(self) -> List[float]:
         """The box that the drawing fills: taller than the ring where names above or below it need that."""
         tops = [name.top - STEP for name in self.laid.values()]
-        ends = [name.top + STEP * (len(name.lines) - 1) + 6 for name in self.laid.values()]
+        ends = [name.top + STEP * (len(name.lines) - 1) + BELOW for name in self.laid.values()]
         tall = height_of(len(self.places))
         return [0.0, min([0.0, *tops]), WIDTH, max([tall, *ends])]
 
 
-def draw(
-    flows: Sequence[Flow], banks: Sequence[Bank], money: Money, scale: Scale, link: Link = None, say: Say = str
-) -> Drawn:
-    """The network as a ring; amounts are written in the scale."""
-    ring = Ring(flows, banks, money, scale, link, say)
+def draw(flows: Sequence[Flow], banks: Sequence[Bank], speech: Speech) -> Drawn:
+    """The network as a ring."""
+    ring = Ring(flows, banks, speech)
     body = ring.debts() + ring.nodes() + ring.amounts()
     own = {bank.name: bank.name for bank in banks}
-    return Drawn(body, ring.box(), legend_of(banks, ring.places), ring.flows, own, own, ring.most)
+    return Drawn(body, ring.box(), legend_of(banks, None in ring.places), ring.flows, own, own, ring.most)
 
 
-STATES_SAID = {
-    "fundamental": "default, own fundamentals: could not pay even if all its debtors paid",
-    "contagion": "default, label contagion: could then pay",
-    "gridlock": "default, label contagion, gridlock: pays at the greatest payments",
-    "sound": "sound: pays all it owes",
-}
-
-
-def sample(body: str, width: int = 28) -> str:
-    """A sample of the legend."""
-    return f'<svg class="ico" viewBox="0 0 {width} 16" width="{width}" height="16" aria-hidden="true">{body}</svg>'
-
-
-def states_in(banks: Sequence[Bank]) -> List[Tuple[str, str]]:
-    """The states of the legend, those that there are."""
-    return [
-        (sample(svg.mark(state, 8, 8), 16), words)
-        for state, words in STATES_SAID.items()
-        if any(bank.state == state for bank in banks)
-    ]
-
-
-def legend_of(banks: Sequence[Bank], places: Dict[Optional[str], Place]) -> List[Tuple[str, str]]:
+def legend_of(banks: Sequence[Bank], has_outside: bool) -> Legend:
     """What the lines and marks of a ring mean."""
-    unpaid = any(bank.state != "sound" for bank in banks)
-    lines = [
-        (sample('<g class="flow"><path class="line" d="M0 8H28" stroke-width="6"/></g>'), "unpaid; width: the amount")
-    ] * unpaid
-    lines.append((sample('<g class="flow done"><path class="line" d="M0 8H28"/></g>'), "paid in full"))
-    outside = [
-        (
-            sample('<rect class="n-outside" x="1" y="1" width="14" height="14" rx="3"/>', 16),
-            "the world outside, which is paid first",
-        )
+    has_unpaid = any(bank.state != "sound" for bank in banks)
+    unpaid = sample('<g class="flow"><path class="line" d="M0 8H28" stroke-width="6"/></g>')
+    paid = sample('<g class="flow done"><path class="line" d="M0 8H28"/></g>')
+    outside = sample(outside_mark(1, 1, svg.MARK - 2, ROUND_SAMPLE), svg.MARK)
+    return [
+        *[(unpaid, "unpaid; width: the amount")] * has_unpaid,
+        (paid, "paid in full"),
+        *states_in(banks),
+        *[(outside, "the world outside, which is paid first")] * has_outside,
+        *[("", "Area of a bank: what it leaves unpaid.")] * has_unpaid,
     ]
-    area = [("", "Area of a bank: what it leaves unpaid.")] * unpaid
-    return [*lines, *states_in(banks), *(outside if None in places else []), *area]

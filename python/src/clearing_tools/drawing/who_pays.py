@@ -37,7 +37,7 @@ from ..money import Money, add_money
 from ..runner import ToolError, command
 from ..texts import Bank, Flow
 from . import network
-from .ring import Drawn
+from .drawn import Drawn
 
 
 def chosen(debts: Sequence[Payment], banks: List[Bank], args: argparse.Namespace) -> Tuple[List[Payment], List[Bank]]:

@@ -8,8 +8,9 @@ from clearing_client.table import Table
 
 from ..labels import count
 from ..texts import Bank, due_of, given_by
-from .matter import Matter, plain
+from .matter import Matter
 from .program import Program
+from .states import plain
 
 MOST_SHOWN = 12
 

@@ -2,9 +2,10 @@
 order."""
 import dataclasses
 import functools
-from typing import TYPE_CHECKING, Dict, List, Mapping, NamedTuple, Optional, Sequence, Set, Tuple
+from typing import TYPE_CHECKING, Dict, List, Optional, Sequence, Set
 
-from clearing_client.records import BreakingCut, Harm, Payment, Ruin, Saving
+from clearing_client.format import MAX_CUT
+from clearing_client.records import BreakingCut, Harm, Payment, Ruin
 from clearing_client.steady import MARK, Place, decided_by_one
 
 from .. import labels
@@ -13,111 +14,11 @@ from ..fullnames import FullNames
 from ..money import Money, Scale
 from ..texts import Bank, due_of, given_by, shortfall_of
 from .journal import Frame
+from .records import Change, Evidence, Head, Rescue, Scenario
+from .states import plain
 
 if TYPE_CHECKING:
     from .costs import Costs
-
-WORDS_TO_TWELVE = (
-    "none",
-    "one",
-    "two",
-    "three",
-    "four",
-    "five",
-    "six",
-    "seven",
-    "eight",
-    "nine",
-    "ten",
-    "eleven",
-    "twelve",
-)
-
-
-def number_word(number: int) -> str:
-    """A number in a sentence: a word up to twelve."""
-    return WORDS_TO_TWELVE[number] if 0 <= number <= 12 else f"{number:,}"
-
-
-def counted(number: int, one: str = "bank", many: str = "") -> str:
-    """A number in a sentence with its noun."""
-    return f"{number_word(number)} {one if number == 1 else many or one + 's'}"
-
-
-def begun(sentence: str) -> str:
-    """A sentence with a large first letter."""
-    return sentence[:1].upper() + sentence[1:]
-
-
-class Given(NamedTuple):
-    """A file that was given: what it is, its name, its bytes, and its SHA-256."""
-
-    what: str
-    name: str
-    size: int
-    digest: str
-
-
-class Verdict(NamedTuple):
-    """What `clearing replay` says of the journal: whether it is lawful and makes these payments, its line, and
-    words."""
-
-    is_lawful: bool
-    line: str
-    words: str
-
-
-class Evidence(NamedTuple):
-    """What another person needs to do it again: files, program, commands, each with its checksum."""
-
-    files: List[Tuple[str, str, str, str]]
-    commit: str
-    toolchain: str
-    commands: List[Tuple[str, int, str]]
-    verdict: Verdict
-    made: str
-    words: str
-
-
-class Scenario(NamedTuple):
-    """A scenario: its name, the banks in it, and the cash that it leaves in all."""
-
-    name: str
-    banks: List[Bank]
-    left: int
-
-
-class Change(NamedTuple):
-    """The case changed in one point: its words, and how the banks then stand. `unpaid` is in units of this case,
-    rounded down; `places` are there where another unit is the change, and tell whether one unit decides a figure."""
-
-    words: str
-    defaults: int
-    unpaid: int
-    against: str
-    states: Dict[str, str]
-    places: Optional[Dict[str, Place]] = None
-
-
-class Head(NamedTuple):
-    """What the case says of itself: empty where it says nothing."""
-
-    title: str
-    description: str
-    as_of: str
-    test: str
-    author: str
-    version: str
-
-
-class Rescue(NamedTuple):
-    """A bank in default: the least cash that lets it pay in full, the other banks that then do too, and how much
-    less then stays unpaid in all (None where it was not tried)."""
-
-    bank: str
-    added: int
-    saves: List[str]
-    less: Optional[int]
 
 
 @dataclasses.dataclass(frozen=True)
@@ -224,7 +125,7 @@ class Matter:
     @functools.cached_property
     def near(self) -> List[BreakingCut]:
         """The banks that stand and would fall at some cut, the nearest first."""
-        return sorted((cut for cut in self.cuts if 0 < cut.cut <= 1000), key=lambda cut: cut.cut)
+        return sorted((cut for cut in self.cuts if 0 < cut.cut <= MAX_CUT), key=lambda cut: cut.cut)
 
     @functools.cached_property
     def scale(self) -> Scale:
@@ -241,32 +142,3 @@ class Matter:
     def has_outside(self) -> bool:
         """Whether some bank owes outside."""
         return any(due_of(bank) > bank.owed for bank in self.banks)
-
-
-def plain(state: str) -> str:
-    """A state without gridlock, as a task tells it that looks at the least payments alone."""
-    return "contagion" if state == "gridlock" else state
-
-
-class Moved(NamedTuple):
-    """Banks that stand otherwise than before: those that are newly in default, those that are so no more, and those
-    with the other label."""
-
-    fallen: List[str]
-    saved: List[str]
-    other: List[str]
-
-
-def moved(before: Mapping[str, str], after: Mapping[str, str]) -> Moved:
-    """The banks whose states are others than before, in the order of those after; gridlock is contagion."""
-    found = Moved([], [], [])
-    for name, state in after.items():
-        if plain(state) != plain(before[name]):
-            group = found.fallen if before[name] == "sound" else found.saved if state == "sound" else found.other
-            group.append(name)
-    return found
-
-
-def saving_of(saving: Saving, saves: List[str], less: Optional[int]) -> Rescue:
-    """A rescue from the record of `clearing rescues`."""
-    return Rescue(saving.bank, saving.added, saves, less)

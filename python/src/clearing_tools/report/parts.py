@@ -6,7 +6,7 @@ from clearing_client.records import Payment
 
 from ..texts import Bank, due_of, shortfall_of
 from .matter import Matter
-from .tables import outside_of
+from .bank_table import outside_of
 
 MANY_BANKS = 40  # above that the part of one bank is shown at a time
 LEAST_EACH, MOST_ROWS = 10, 40_000
@@ -84,33 +84,48 @@ def largest_of(debts: Sequence[Payment], most: int) -> Tuple[List[Payment], List
     return [debts[at] for at in sorted(largest)], [debt for at, debt in enumerate(debts) if at not in largest]
 
 
-def debts_of(matter: Matter, debts: Sequence[Payment], side: int, outside: Tuple[int, int] = (0, 0)) -> Debts:
-    """What a bank owes, or is owed, to the last unit; first what it owes outside, with what is paid of it."""
+def debt_of(matter: Matter, other: Optional[str], class_: str, claim: int, paid: int) -> Debt:
+    """A debt to the last unit."""
     number = matter.money.number
-    rows = []
+    return Debt(other, class_, number(claim), number(paid), number(claim - paid), paid < claim)
+
+
+def sums_of(debts: Sequence[Payment]) -> Tuple[int, int]:
+    """What some debts claim in all, and what is paid of it."""
+    return sum(debt.claim for debt in debts), sum(debt.paid for debt in debts)
+
+
+def debts_of(matter: Matter, debts: Sequence[Payment], side: int, outside: Tuple[int, int] = (0, 0)) -> Debts:
+    """What a bank owes (side 1), or is owed (side 0), to the last unit; first what it owes outside, with what is paid
+    of it."""
     largest, others = largest_of(debts, most_each(matter))
-    if outside[0]:
-        owed, paid = outside
-        rows.append(Debt(None, "first", number(owed), number(paid), number(owed - paid), paid < owed))
+    rows = [debt_of(matter, None, "first", *outside)] if outside[0] else []
     for debt in largest:
-        unpaid = debt.claim - debt.paid
-        rows.append(
-            Debt(
-                debt.creditor if side else debt.debtor,
-                str(debt.class_),
-                number(debt.claim),
-                number(debt.paid),
-                number(unpaid),
-                unpaid > 0,
-            )
-        )
-    claim, paid = sum(debt.claim for debt in debts), sum(debt.paid for debt in debts)
-    sums = number(claim), number(paid), number(claim - paid)
+        other = debt.creditor if side else debt.debtor
+        rows.append(debt_of(matter, other, str(debt.class_), debt.claim, debt.paid))
+    all_debts = debt_of(matter, None, "", *sums_of(debts))
+    sums = all_debts.claim, all_debts.paid, all_debts.unpaid
     if not others:
         return Debts(rows, *sums)
-    claim, paid = sum(debt.claim for debt in others), sum(debt.paid for debt in others)
-    rest = Debt(None, "", number(claim), number(paid), number(claim - paid), claim > paid)
-    return Debts(rows, *sums, rest, len(others))
+    return Debts(rows, *sums, debt_of(matter, None, "", *sums_of(others)), len(others))
+
+
+def part_of(matter: Matter, at: int, owes: Sequence[Payment], is_owed: Sequence[Payment]) -> Part:
+    """The part of the page for the bank of a place, with what it owes and is owed."""
+    bank, money = matter.banks[at], matter.money
+    cash = matter.cash[bank.name]
+    outside = outside_of(bank), bank.outside_paid
+    return Part(
+        place=at,
+        bank=bank,
+        cash=money(cash),
+        receipts=money(bank.estate - cash),
+        estate=money(bank.estate),
+        rule=matter.rules[bank.name],
+        equity=money(bank.equity),
+        owes=debts_of(matter, owes, 1, outside),
+        is_owed=debts_of(matter, is_owed, 0),
+    )
 
 
 def parts_of_banks(matter: Matter) -> Iterator[Part]:
@@ -121,19 +136,6 @@ def parts_of_banks(matter: Matter) -> Iterator[Part]:
     for debt in matter.debts:
         owes[debt.debtor].append(debt)
         is_owed[debt.creditor].append(debt)
-    money = matter.money
     for at, bank in enumerate(matter.banks):
-        if bank.name not in chosen:
-            continue
-        cash = matter.cash[bank.name]
-        amounts = (
-            money(cash),
-            money(bank.estate - cash),
-            money(bank.estate),
-            matter.rules[bank.name],
-            money(bank.equity),
-        )
-        outside = outside_of(bank), bank.outside_paid
-        yield Part(
-            at, bank, *amounts, debts_of(matter, owes[bank.name], 1, outside), debts_of(matter, is_owed[bank.name], 0)
-        )
+        if bank.name in chosen:
+            yield part_of(matter, at, owes[bank.name], is_owed[bank.name])

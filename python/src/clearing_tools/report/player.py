@@ -4,12 +4,13 @@ from typing import Callable, Dict, List, Mapping, Optional, Protocol, Sequence
 from clearing_client.records import Payment
 
 from .. import labels
-from ..drawing.ring import LEAST_WIDTH, MOST_WIDTH, Drawn
+from ..drawing.curves import LEAST_WIDTH, MOST_WIDTH
+from ..drawing.drawn import Drawn
 from ..fullnames import FullNames
 from ..money import Money
 from ..texts import Bank
 from .journal import Frame
-from .tables import outside_of
+from .bank_table import outside_of
 
 OUTSIDE, BLOCK = -2, -1
 """What stands for the place of a flow's creditor: the world outside, and all banks of a block."""

@@ -1,52 +1,19 @@
-"""Does it stand: the same case, changed in one point, and cleared again; and what each rescue does, tried one by
-one.
+"""Does it stand: the same case, changed in one point, and cleared again."""
+from typing import Callable, Dict, List, NamedTuple, Sequence, Set
 
-The files that are changed for this stand in the folder of what the program printed, and among the evidence."""
-import csv
-import io
-from typing import Callable, Dict, List, NamedTuple, Sequence, Set, Tuple
-
-from clearing_client import texts as forms
 from clearing_client.format import MAX_CASH, MAX_CLAIM, MAX_OUTSIDE
-from clearing_client.limits import MOST, WIDE, needed, words_of
-from clearing_client.results import Bounds, Defaults, Outcomes, Rescues
-from clearing_client.scenarios import Scenario, Scenarios
+from clearing_client.limits import MOST, WIDE, needed
+from clearing_client.results import Bounds, Defaults
 from clearing_client.steady import MARK, Place, half
 
-from .. import texts
 from ..labels import count, listed
-from ..texts import Bank, given_by, shortfall_of
-from .matter import Change, Rescue, counted, moved, plain, saving_of
-from .program import Program
+from ..texts import Bank, shortfall_of
+from .original import Original, text_of
+from .records import Change
+from .states import moved, plain
+from .words import counted
 
-MOST_TRIED = 40  # of the rescues
-Rows = List[List[str]]
-
-
-class Files(NamedTuple):
-    """The two files of a case as records, with their headers."""
-
-    banks_header: List[str]
-    banks: Rows
-    debts_header: List[str]
-    debts: Rows
-
-
-def read_files(banks: str, debts: str) -> Files:
-    """The two files of a case."""
-    banks_header, banks_rows = texts.records_in(banks, forms.BANKS_1, forms.BANKS_2)
-    debts_header, debts_rows = texts.records_in(debts, ",".join(DEBTS))
-    return Files(banks_header, [row for _, row in banks_rows], debts_header, [row for _, row in debts_rows])
-
-
-DEBTS = ("debtor", "creditor", "class", "claim")
-
-
-def text_of(header: Sequence[str], rows: Rows) -> bytes:
-    """A file of the network."""
-    text = io.StringIO()
-    csv.writer(text, lineterminator="\n").writerows([header, *rows])
-    return text.getvalue().encode()
+MOST_NAMES = 3  # of banks that stand otherwise
 
 
 class Unit(NamedTuple):
@@ -68,27 +35,20 @@ HALF = Unit("half-unit", "unit half as large", lambda units: 2 * units, parts=2)
 class Stands:
     """The case, and the program that clears it changed."""
 
-    def __init__(
-        self, program: Program, files: Files, names: Tuple[str, str], banks: List[Bank], bounds: Bounds, limits: str
-    ) -> None:
-        self.program, self.files, self.names, self.banks, self.bounds = program, files, names, banks, bounds
-        self.limits = limits
+    def __init__(self, original: Original, banks: Sequence[Bank], bounds: Bounds) -> None:
+        self.original, self.bounds = original, bounds
         self.base = {bank.name: plain(bank.state) for bank in banks}
         self.unpaid = sum(map(shortfall_of, banks))
-
-    def put(self, name: str, header: Sequence[str], rows: Rows) -> str:
-        """Writes a changed file into the folder, and answers its name."""
-        return str(self.program.put(name, text_of(header, rows)))
 
     def cleared(
         self, key: str, words: str, banks: str, debts: str, unit: Unit = AS_GIVEN, limits: str = ""
     ) -> Change:
         """The case with these files, whose amounts are in a unit, cleared by some limits, or its own, against the
         first."""
-        by = words_of(limits or self.limits)
-        path = self.program.ask(f"defaults-{key}.csv", "defaults", "--banks", banks, "--debts", debts, *by)
-        defaults: Defaults = self.program.result("defaults", Defaults, path)
-        outside = {row[0]: unit.amount(int(row[3])) for row in self.files.banks if len(row) > 3}
+        program, files = self.original.program, self.original.files
+        path = program.ask(f"defaults-{key}.csv", "defaults", *self.original.words(banks, debts, limits=limits))
+        defaults = program.result("defaults", Defaults, path)
+        outside = {row[0]: unit.amount(int(row[3])) for row in files.banks if len(row) > 3}
         gaps = ((bank, outside.get(bank.bank, 0) - bank.outside_paid) for bank in defaults.standings)
         unpaid = sum(bank.owed - bank.paid + gap for bank, gap in gaps)
         states = {bank.bank: bank.state for bank in defaults.standings}
@@ -109,34 +69,37 @@ class Stands:
 
     def few(self, names: List[str]) -> str:
         """Some banks by name, or how many there are."""
-        return listed(names) if len(names) <= 3 else count(len(names), "bank")
+        return listed(names) if len(names) <= MOST_NAMES else count(len(names), "bank")
 
     def by_rule(self, rule: str, words: str) -> Change:
         """The case with one rule for all banks."""
-        rows = [[*row[:2], rule, *row[3:]] for row in self.files.banks]
-        return self.cleared(rule, words, self.put(f"banks-{rule}.csv", self.files.banks_header, rows), self.names[1])
+        rows = [[*row[:2], rule, *row[3:]] for row in self.original.files.banks]
+        return self.cleared(rule, words, self.original.put_banks(f"banks-{rule}.csv", rows), self.original.names[1])
 
     def by_unit(self, unit: Unit) -> Change:
         """The case in another unit, by the wide limits where its amounts need them."""
-        banks = [[row[0], in_unit(row[1], unit), row[2], *(in_unit(cell, unit) for cell in row[3:])]
-                 for row in self.files.banks]
-        debts = [[*row[:3], in_unit(row[3], unit)] for row in self.files.debts]
-        banks_file = self.put(f"banks-{unit.key}.csv", self.files.banks_header, banks)
-        debts_file = self.put(f"debts-{unit.key}.csv", self.files.debts_header, debts)
-        is_large = needed(text_of(self.files.banks_header, banks), text_of(self.files.debts_header, debts)) == WIDE
-        return self.cleared(unit.key, unit.words, banks_file, debts_file, unit, WIDE if is_large else self.limits)
+        original, files = self.original, self.original.files
+        banks = [
+            [row[0], in_unit(row[1], unit), row[2], *(in_unit(cell, unit) for cell in row[3:])] for row in files.banks
+        ]
+        debts = [[*row[:3], in_unit(row[3], unit)] for row in files.debts]
+        banks_file = original.put_banks(f"banks-{unit.key}.csv", banks)
+        debts_file = original.put_debts(f"debts-{unit.key}.csv", debts)
+        is_large = needed(text_of(files.banks_header, banks), text_of(files.debts_header, debts)) == WIDE
+        return self.cleared(unit.key, unit.words, banks_file, debts_file, unit, WIDE if is_large else "")
 
     def may_double(self) -> bool:
         """Whether amounts twice as large are within the wide limits."""
-        claims = [2 * int(row[3]) for row in self.files.debts]
-        banks = [(2 * int(row[1]), *(2 * int(cell) for cell in row[3:])) for row in self.files.banks]
+        files = self.original.files
+        claims = [2 * int(row[3]) for row in files.debts]
+        banks = [(2 * int(row[1]), *(2 * int(cell) for cell in row[3:])) for row in files.banks]
         is_bank = all(cash <= MAX_CASH and max(outside, default=0) <= MAX_OUTSIDE for cash, *outside in banks)
         return is_bank and max(claims, default=0) <= MAX_CLAIM and sum(claims) <= MOST.owed
 
     def by_order(self) -> Change:
         """The case with its debts in reverse order."""
-        debts = self.put("debts-reversed.csv", self.files.debts_header, self.files.debts[::-1])
-        return self.cleared("reversed", "debts in reverse order", self.names[0], debts)
+        debts = self.original.put_debts("debts-reversed.csv", self.original.files.debts[::-1])
+        return self.cleared("reversed", "debts in reverse order", self.original.names[0], debts)
 
     def by_greatest(self) -> Change:
         """The greatest payments that clear, in place of the least."""
@@ -162,43 +125,9 @@ def in_unit(amount: str, unit: Unit) -> str:
     return str(unit.amount(int(amount)))
 
 
-def rescues_of(
-    program: Program, files: Files, names: Tuple[str, str], banks: List[Bank], rescues: Rescues, limits: str
-) -> List[Rescue]:
-    """The rescues, in file order, the cheapest and those of the banks that leave most unpaid tried one by one.
-
-    All cash that is tried is put in at once, and each scenario takes that of all others away."""
-    by_name = {bank.name: bank for bank in banks}
-    saves: Dict[str, List[str]] = {}
-    for pair in rescues.saved:
-        saves.setdefault(pair.bank, []).append(pair.saves)
-    cash = {row[0]: int(row[1]) for row in files.banks}
-    able = [one for one in rescues.banks if one.added and cash[one.bank] + one.added <= MAX_CASH]
-    cheap = sorted(able, key=lambda one: one.added)[: MOST_TRIED // 4]
-    large = sorted(able, key=lambda one: -shortfall_of(by_name[one.bank]))
-    tried = list(dict.fromkeys([*cheap, *large]))[:MOST_TRIED]
-    less: Dict[str, int] = {}
-    if tried:
-        added = {one.bank: one.added for one in tried}
-        rows = [[row[0], str(int(row[1]) + added.get(row[0], 0)), *row[2:]] for row in files.banks]
-        changed = str(program.put("banks-rescued.csv", text_of(files.banks_header, rows)))
-        scenarios = [
-            Scenario(f"rescue {at}", losses=[(name, units) for name, units in added.items() if name != one.bank])
-            for at, one in enumerate(tried, 1)
-        ]
-        path = str(program.put("rescues.toml", Scenarios(scenarios).to_toml(plain=True).encode()))
-        words = ["--banks", changed, "--debts", names[1], "--scenarios", path, *words_of(limits)]
-        sums = program.result("outcomes", Outcomes, program.ask("outcomes-rescues.csv", "outcomes", *words))
-        paid_as_is = sum(map(given_by, banks))
-        less = {one.bank: then.paid + then.outside_paid - paid_as_is for one, then in zip(tried, sums.scenarios)}
-    return [saving_of(one, saves.get(one.bank, []), less.get(one.bank)) for one in rescues.banks]
-
-
-def changes_of(
-    program: Program, files: Files, names: Tuple[str, str], banks: List[Bank], bounds: Bounds, limits: str
-) -> List[Change]:
+def changes_of(original: Original, banks: Sequence[Bank], bounds: Bounds) -> List[Change]:
     """The case, changed in one point each."""
-    return Stands(program, files, names, banks, bounds, limits).all()
+    return Stands(original, banks, bounds).all()
 
 
 def title_of(changes: List[Change], unsure: Set[str]) -> str:

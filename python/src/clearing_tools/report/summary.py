@@ -5,9 +5,10 @@ from typing import List, Sequence
 from ..labels import held, percent
 from ..texts import Bank
 from . import costs
-from .charts.scenarios import cases_of
+from .charts.cases import cases_of
 from .charts.shortfalls import best_of, ratio_of
-from .matter import Matter, begun, counted, number_word
+from .matter import Matter
+from .words import begun, counted, cut_words, number_word
 
 
 def summary(matter: Matter) -> List[str]:
@@ -114,8 +115,8 @@ def following(matter: Matter) -> str:
     near = matter.near
     if not near:
         return "No other bank falls at any cut of all cash." if matter.sound else "No bank is left that could fall."
-    first, cut = matter.in_sentence(near[0].bank), percent(near[0].cut, 1000)
+    first, cut = matter.in_sentence(near[0].bank), cut_words(near[0].cut)
     sentence = f"The next bank in default is {first}, at a cut of {cut} of all cash"
     if len(near) > 1:
-        sentence += f"; then {matter.in_sentence(near[1].bank)}, at {percent(near[1].cut, 1000)}"
+        sentence += f"; then {matter.in_sentence(near[1].bank)}, at {cut_words(near[1].cut)}"
     return sentence + "."

@@ -1,6 +1,33 @@
-// What is asked of the server: GET to see, POST to change. An answer is its value, or the fault that the program or
-// the server tells. Paths are relative: they stand behind the ticket with which the page's own address begins.
+// What is asked of the server: GET to see, POST to change. Paths are relative: they stand behind the ticket with which
+// the page's own address begins.
 
+/**
+ * What the program or the server does not take: what is said, what it means, and at which field of the page.
+ * @typedef {{said: string, meaning?: string, field?: string}} Fault
+ */
+
+/**
+ * An answer: its value, or the fault that is told instead.
+ * @typedef {{value?: any, fault?: Fault}} Answer
+ */
+
+/**
+ * How far a question is: its pieces behind those seen, how many have come and of how many, for how long, and how it
+ * ended.
+ * @typedef {Object} Told
+ * @property {any[]} [pieces]
+ * @property {number} [come]
+ * @property {number} [of]
+ * @property {number} [seconds]
+ * @property {boolean} [ended]
+ * @property {boolean} [stopped]
+ * @property {string} [fault]
+ */
+
+const FIRST_PAUSE = 60, LAST_PAUSE = 500; // milliseconds between two looks at a question
+const SLOWER = 1.5; // how much longer each pause is than the one before
+
+/** @returns {Promise<Answer>} */
 const answer = async (sent) => {
   let response;
   try {
@@ -15,10 +42,19 @@ const answer = async (sent) => {
   return response.ok ? { value } : { fault: value };
 };
 
-/** What is there at a path. */
+/**
+ * What is there at a path.
+ * @param {string} path
+ * @returns {Promise<Answer>}
+ */
 export const see = (path) => answer(fetch(path, { headers: { Accept: "application/json" } }));
 
-/** What a request with an object answers. */
+/**
+ * What a request with an object answers.
+ * @param {string} path
+ * @param {object} what
+ * @returns {Promise<Answer>}
+ */
 export const post = (path, what) => answer(
   fetch(path, {
     method: "POST",
@@ -27,21 +63,23 @@ export const post = (path, what) => answer(
   }),
 );
 
-/** The state that a change of another leads to. */
-export const change = (from, what) => post("change", { from, ...what });
-
 const wait = (milliseconds) => new Promise((done) => {
   setTimeout(done, milliseconds);
 });
 
 /**
- * Follows a question: `take` gets each piece as it comes, `tell` how far it is. Ends with what was told last;
- * `isWanted` says whether to go on.
+ * Follows a question that goes on.
+ * @param {number} question its number
+ * @param {(piece: any) => void} take gets each piece as it comes
+ * @param {(told: Told) => void} [tell] gets how far it is
+ * @param {() => boolean} [isWanted] whether to go on
+ * @returns {Promise<Told>} what was told last
  */
-export const follow = async (number, take, tell, isWanted) => {
-  let after = 0, pause = 60;
+export const follow = async (question, take, tell = () => {}, isWanted = () => true) => {
+  let after = 0;
+  let pause = FIRST_PAUSE;
   for (;;) {
-    const { value, fault } = await see(`question/${number}/${after}`);
+    const { value, fault } = await see(`question/${question}/${after}`);
     if (fault) return { fault: fault.said };
     if (!isWanted()) return { ended: false };
     value.pieces.forEach(take);
@@ -49,6 +87,6 @@ export const follow = async (number, take, tell, isWanted) => {
     tell(value);
     if (value.ended) return value;
     await wait(pause);
-    pause = Math.min(500, 1.5 * pause);
+    pause = Math.min(LAST_PAUSE, SLOWER * pause);
   }
 };

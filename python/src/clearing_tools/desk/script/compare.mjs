@@ -1,52 +1,147 @@
 // A state against another: who falls or is saved, what each pays and keeps more or less. It adds and subtracts, and
 // does nothing else.
-import { listed, word } from "./numbers.mjs";
 
-export const isSound = (state) => state === "sound" || state === "absent";
+/**
+ * How the banks stand at payments that clear: a list over the banks for each thing, in file order. Amounts are units
+ * of account.
+ * @typedef {Object} End
+ * @property {string[]} state sound, fundamental, contagion or gridlock; absent where another case has no such bank
+ * @property {number[]} paid what each pays to banks
+ * @property {number[]} outsidePaid what each pays outside
+ * @property {number[]} equity what each keeps
+ * @property {number[]} lost what of its estate is lost where default costs
+ * @property {number[]} [estate] its cash and its receipts
+ */
+
+/**
+ * What a state has beside that.
+ * @typedef {Object} Changes
+ * @property {number} id the number of the state
+ * @property {number[]} line the states on the way to it, and itself
+ * @property {number} cut what is cut of all cash, per mille
+ * @property {number} keep what a bank in default keeps of its estate, per mille
+ * @property {number} scenario its place from 1 on, 0 where none is chosen
+ * @property {[number, number][]} losses what is lost beside the cut: banks and amounts
+ * @property {number[]} cash of each bank, before the shock
+ * @property {number[]} left of its cash after the shock
+ * @property {number[]} owed what each owes banks
+ * @property {number[]} outside what each owes outside
+ * @property {string[]} rule by which each divides its estate
+ * @property {End | null} greatest how the banks stand at the greatest payments, where default costs
+ * @property {number[]} flows what is paid of each debt
+ * @property {number[] | null} keys the keys of the debts, where they are not those of the files in order
+ * @property {[number, number, number, number, number | null, number | null][]} changedDebts key, debtor, creditor,
+ *   class, and the claim before and now, nothing where there is none
+ * @property {boolean} isScenario whether the changes are a scenario
+ */
+
+/**
+ * A state as the server has it.
+ * @typedef {End & Changes} State
+ */
+
+/**
+ * A bank in two states. Amounts are units of account; `More` is by how much that is more now.
+ * @typedef {Object} Row
+ * @property {number} bank
+ * @property {string} was its state before
+ * @property {string} is its state now
+ * @property {number} unpaidBefore
+ * @property {number} unpaid
+ * @property {number} unpaidMore
+ * @property {number} keepsBefore
+ * @property {number} keeps
+ * @property {number} keepsMore
+ */
+
+const SEVERITY = ["fundamental", "contagion", "gridlock", "sound", "absent"];
+
+const isSound = (state) => state === "sound" || state === "absent";
 const places = (view) => view.state.map((_, bank) => bank);
 const sum = (values) => values.reduce((all, value) => all + value, 0);
 
-/** The banks that are in default now and were not before. */
+/**
+ * The banks that are in default now and were not before.
+ * @param {End} before
+ * @param {End} now
+ * @returns {number[]}
+ */
 export const fallen = (before, now) => places(now).filter(
   (bank) => isSound(before.state[bank]) && !isSound(now.state[bank]),
 );
 
-/** The banks that were in default before and are not now. */
+/**
+ * The banks that were in default before and are not now.
+ * @param {End} before
+ * @param {End} now
+ * @returns {number[]}
+ */
 export const saved = (before, now) => places(now).filter(
   (bank) => !isSound(before.state[bank]) && isSound(now.state[bank]),
 );
 
-/** All that a bank pays, outside and to banks. */
+/**
+ * All that a bank pays, outside and to banks.
+ * @param {End} view
+ * @param {number} bank
+ * @returns {number} units
+ */
 export const paysOf = (view, bank) => view.paid[bank] + view.outsidePaid[bank];
 
-/** All that a bank owes, outside and to banks. */
+/**
+ * All that a bank owes, outside and to banks.
+ * @param {State} view
+ * @param {number} bank
+ * @returns {number} units
+ */
 export const owesOf = (view, bank) => view.owed[bank] + view.outside[bank];
 
-/** All that a bank owes and leaves unpaid. */
+/**
+ * All that a bank owes and leaves unpaid.
+ * @param {State} view
+ * @param {number} bank
+ * @returns {number} units
+ */
 export const unpaidOf = (view, bank) => owesOf(view, bank) - paysOf(view, bank);
 
-/** The sums of a state. */
+/**
+ * The sums of a state: how many banks are in default, and amounts over all banks in units.
+ * @param {State} view
+ */
 export const sums = (view) => {
-  const pays = places(view).map((bank) => paysOf(view, bank));
-  const owes = places(view).map((bank) => owesOf(view, bank));
+  const pays = sum(places(view).map((bank) => paysOf(view, bank)));
+  const owes = sum(places(view).map((bank) => owesOf(view, bank)));
   return {
     defaults: view.state.filter((state) => !isSound(state)).length,
     cash: sum(view.left),
-    owes: sum(owes),
-    pays: sum(pays),
-    unpaid: sum(owes) - sum(pays),
+    owes,
+    pays,
+    unpaid: owes - pays,
     keeps: sum(view.equity),
     lost: sum(view.lost),
   };
 };
 
-/** How the banks stand at the greatest payments that clear where default costs; nothing where it does not. */
+/**
+ * A state at the greatest payments that clear, where default costs; nothing where it does not.
+ * @param {State} view
+ * @returns {State | null}
+ */
 export const atGreatest = (view) => (view.greatest ? { ...view, ...view.greatest, greatest: null } : null);
 
-/** The banks that are in default at the least payments that clear, and sound at the greatest. */
+/**
+ * The banks that are in default at the least payments that clear, and sound at the greatest.
+ * @param {State} view
+ * @returns {number[]}
+ */
 export const soundAtGreatest = (view) => (view.greatest ? saved(view, atGreatest(view)) : []);
 
-/** A row for each bank: how it stood and stands, and what of it is unpaid and kept. */
+/**
+ * A row for each bank: how it stood and stands, and what of it is unpaid and kept.
+ * @param {State} before
+ * @param {State} now
+ * @returns {Row[]}
+ */
 export const rows = (before, now) => places(now).map((bank) => ({
   bank,
   was: before.state[bank],
@@ -59,9 +154,10 @@ export const rows = (before, now) => places(now).map((bank) => ({
   keepsMore: now.equity[bank] - before.equity[bank],
 }));
 
+/** What rows are sorted by, the least first. @type {Object<string, (row: Row) => number>} */
 const ORDERS = {
   bank: (row) => row.bank,
-  state: (row) => ["fundamental", "contagion", "gridlock", "sound", "absent"].indexOf(row.is),
+  state: (row) => SEVERITY.indexOf(row.is),
   unpaidBefore: (row) => -row.unpaidBefore,
   unpaid: (row) => -row.unpaid,
   unpaidMore: (row) => -row.unpaidMore,
@@ -71,12 +167,15 @@ const ORDERS = {
 };
 
 /**
- * Rows in an order: by a column, from its far end where `turned`; of equal ones that with more of a difference
- * comes first.
+ * Rows in an order. Of equal ones that with more of a difference comes first.
+ * @param {Row[]} found
+ * @param {string} key the column that says the order
+ * @param {boolean} [isTurned] whether it goes from the far end
+ * @returns {Row[]}
  */
-export const sorted = (found, key, turned) => {
+export const sorted = (found, key, isTurned = false) => {
   const of = ORDERS[key];
-  const sign = turned ? -1 : 1;
+  const sign = isTurned ? -1 : 1;
   return [...found].sort(
     (one, other) =>
       sign * (of(one) - of(other))
@@ -87,76 +186,9 @@ export const sorted = (found, key, turned) => {
   );
 };
 
-/** Whether anything of a row is another than before. */
-export const differs = (row) => row.was !== row.is || row.unpaidMore !== 0 || row.keepsMore !== 0;
-
-/** That an amount stays unpaid: several units are many, and an amount of a currency is one. */
-const stays = (said, more = "") => `${said}${more} ${said.endsWith("units") ? "stay" : "stays"} unpaid`;
-
-/** The title of a state against another. `name` gives a bank's name in a sentence, `say` an amount. */
-export const told = (before, now, isSame, name, say) => {
-  const is = sums(now);
-  const more = is.unpaid - sums(before).unpaid;
-  if (isSame) {
-    const count = is.defaults ? `${word(is.defaults)} of ${word(now.state.length)} banks` : "No bank";
-    const who = `${count[0].toUpperCase()}${count.slice(1)} ${is.defaults > 1 ? "are" : "is"}`;
-    return `${who} in default; ${stays(say(is.unpaid))}`;
-  }
-  const falls = fallen(before, now);
-  const rises = saved(before, now);
-  const parts = [];
-  if (falls.length) {
-    parts.push(`${listed(falls.map(name), 3)} ${falls.length === 1 ? "joins" : "join"} those in default`);
-  }
-  if (rises.length) {
-    parts.push(`${listed(rises.map(name), 3)} ${rises.length === 1 ? "is" : "are"} in default no more`);
-  }
-  if (!parts.length && !rows(before, now).some(differs)) return "Nothing differs";
-  if (!parts.length) parts.push(is.defaults ? "The same banks are in default" : "No bank is in default");
-  parts.push(more ? stays(say(Math.abs(more)), more > 0 ? " more" : " less") : "as much stays unpaid");
-  return parts.join("; ");
-};
-
-/** What was changed of the banks: the bank, the field, before and now. */
-export const changedBanks = (before, now) => places(now).flatMap((bank) => ["cash", "rule", "outside"]
-  .filter((field) => before[field][bank] !== now[field][bank])
-  .map((field) => ({ bank, field, before: before[field][bank], now: now[field][bank] })));
-
-/** Why the changes are no scenario, which takes cash and nothing else; nothing where nothing is changed. */
-export const whyNoScenario = (before, now) => {
-  const fields = new Set(changedBanks(before, now).map(({ field }) => field));
-  const reasons = [
-    ["debts", now.changedDebts.length],
-    ["rules", fields.has("rule")],
-    ["what is owed outside", fields.has("outside")],
-    ["what default keeps", before.keep !== now.keep],
-    ["cash that is more than before", now.left.some((units, bank) => units > before.left[bank])],
-  ];
-  const said = reasons.filter(([, holds]) => holds).map(([words]) => words);
-  return said.length
-    ? `No changes.toml: a scenario takes cash and nothing else, and changed here: ${listed(said)}.`
-    : "";
-};
-
-// Two cases.
-
 /**
- * A state of another case as one of this: a list over this case's banks, by their names, and those behind them that
- * it alone has.
+ * Whether anything of a row is another than before.
+ * @param {Row} row
+ * @returns {boolean}
  */
-export const aligned = (view, names, others) => {
-  const place = new Map(others.map((name, at) => [name, at]));
-  const from = names.map((name) => place.get(name) ?? -1);
-  const list = (key, none) => from.map((at) => (at < 0 ? none : view[key][at]));
-  return {
-    ...view,
-    state: list("state", "absent"),
-    rule: list("rule", ""),
-    ...Object.fromEntries(
-      ["cash", "outside", "left", "owed", "estate", "lost", "paid", "outsidePaid", "equity", "wave"].map((
-        key,
-      ) => [key, list(key, 0)]),
-    ),
-    greatest: null,
-  };
-};
+export const differs = (row) => row.was !== row.is || row.unpaidMore !== 0 || row.keepsMore !== 0;

@@ -1,219 +1,173 @@
-// At which cut of all cash each bank falls: a curve, the ticks of the slider, and who falls next.
-import { many, number } from "./numbers.mjs";
-import { by, draw, linesOf, make } from "./parts.mjs";
-import { askAll } from "./questions.mjs";
+// How many banks are in default at each cut of all cash: a curve, and the ticks of the slider.
+import { MOST } from "./breaking.mjs";
+import { by, draw, make } from "./elements.mjs";
+import { FONTS, linesOf } from "./letters.mjs";
+import { many, number } from "./texts.mjs";
 
-const AT_ONCE = 60; // banks up to which the question is asked unasked
-const MOST = 1000;
+const AT_ONCE = 60; // banks up to which the question is asked unasked, and each has a mark
+const WIDE = 720, LEAST_WIDE = 300; // pixels
+const TALL = 200, LEFT = 44, RIGHT = 16, TOP = 12, BOTTOM = 32;
+const MOST_TICKS = 400; // of the slider
+const MOST_STEPS = 5; // banks up to which each number is a step of the axis
+const PERCENTS = [0, 25, 50, 75, 100];
+const DOT = 4, HIT = 10; // the radius of a mark, and of where it is hit
+const NAME = { wide: 230, aside: 10, above: 8, room: 60 }; // of the chosen bank, in pixels
 
-/** What is known of the cuts at which banks fall in a state: for each bank the least, or between which two it lies. */
-const nothing = (count) => ({ exact: new Map(), high: Array(count).fill(null), isWhole: false });
-
-const key = (view) => JSON.stringify([view.losses, view.cash, view.rule, view.outside, view.changedDebts]);
-
-/** Shows what is known for the state at hand, and asks where the network is small. */
-export const showCurve = (context) => {
-  const found = known(context, context.view);
-  paint(context, found);
-  const isSmall = context.view.state.length <= AT_ONCE;
-  by("ask-curve").hidden = found.isWhole || isSmall;
-  if (isSmall) askCurve(context);
+/** Shows the ticks below the slider, each where a bank falls. */
+const showTicks = (falls) => {
+  const cuts = new Set(falls.map(({ cut }) => cut).filter((cut) => cut > 0));
+  by("ticks").replaceChildren(...[...cuts].slice(0, MOST_TICKS).map((cut) => {
+    const tick = make("b");
+    tick.style.left = `${cut / 10}%`;
+    return tick;
+  }));
 };
 
-/** What is known for a state; all but its cut decides. */
-const known = (context, view) => {
-  context.breaking ??= new Map();
-  view.breakingKey ??= key(view);
-  return context.breaking.get(view.breakingKey) ?? nothing(view.state.length);
-};
-
-/** Asks at which cut each bank falls; what comes is shown piece by piece. */
-export const askCurve = async (context) => {
-  const { view } = context;
-  const found = known(context, view);
-  if (context.breaking.has(view.breakingKey) && (found.isWhole || found.isAsked)) {
-    paint(context, found);
-    return;
-  }
-  found.isAsked = true;
-  context.breaking.set(view.breakingKey, found);
-  by("ask-curve").hidden = true;
-  const ended = await askAll(
-    context,
-    "breaking",
-    by("curve-told"),
-    (piece) => {
-      if (piece.kind === "between") found.high = piece.high;
-      for (const [bank, at, state] of piece.exact) found.exact.set(bank, [at, state]);
-      if (context.view.breakingKey === view.breakingKey) paint(context, found);
-    },
-    view.id,
-  );
-  found.isAsked = false;
-  found.isWhole = ended !== null && !ended.fault && !ended.stopped && ended.ended;
-  if (context.view.breakingKey === view.breakingKey) {
-    paint(context, found);
-    by("ask-curve").hidden = found.isWhole;
-  }
-};
-
-/** The cut at which a bank falls, as far as it is known: [cut or null where none, whether that is the last word]. */
-const fallOf = (found, bank) => {
-  if (found.exact.has(bank)) return [found.exact.get(bank)[0], true];
-  const high = found.high[bank];
-  return high === null ? null : [high > MOST ? null : high, false];
-};
-
-/** What is said of the cut at which a bank falls. */
-export const breaksWords = (context, bank) => {
-  const found = known(context, context.view);
-  const fall = fallOf(found, bank);
-  if (!fall) return "";
-  const of = context.view.cut ? " of the cash before this cut" : "";
-  if (!fall[1]) return `It falls at a cut of at most ${number(fall[0] ?? MOST)} per mille${of}.`;
-  if (fall[0] === null) return "No cut of all cash breaks it.";
-  if (fall[0] === 0) return "It is in default without a cut.";
-  const label = found.exact.get(bank)[1] === "fundamental" ? "own fundamentals" : "contagion";
-  return `It falls at a cut of ${number(fall[0])} per mille${of} (label ${label}), and at none below.`;
-};
-
-/** The banks that fall next above the cut of a state: [cut, banks], or nothing where it is not known. */
-export const nextOf = (context, view) => {
-  const found = known(context, view);
-  if (!found.isWhole) return null;
-  const above = [...found.exact]
-    .filter(([, [at]]) => at !== null && at > view.cut)
-    .map(([bank, [at]]) => [at, bank]);
-  if (!above.length) return [null, []];
-  const least = Math.min(...above.map(([at]) => at));
-  return [least, above.filter(([at]) => at === least).map(([, bank]) => bank)];
-};
-
-const paint = (context, found) => {
-  const falls = found.high
-    .map((_, bank) => [bank, fallOf(found, bank)])
-    .filter(([, fall]) => fall && fall[0] !== null)
-    .map(([bank, [at, isSure]]) => [at, bank, isSure]);
-  falls.sort((one, other) => one[0] - other[0]);
-  ticks(falls);
-  const place = by("curve-place");
-  const wide = Math.max(300, context.curveWide || 720);
-  if (!falls.length) {
-    place.replaceChildren();
-    by("curve-title").textContent = "At which cut each bank falls";
-  } else {
-    place.replaceChildren(chart(context, falls, wide));
-    title(context, falls, found);
-  }
-  if (by("breaks") && context.bank !== null) by("breaks").textContent = breaksWords(context, context.bank);
-  context.showNext();
-  context.showSources();
-};
-
-const title = (context, falls, found) => {
-  const already = falls.filter(([at]) => at === 0).length;
-  const all = falls.length;
-  by("curve-title").textContent = found.exact.size === found.high.length || found.isWhole
-    ? `${many(all, "bank")} of ${number(found.high.length)} ${all === 1 ? "falls" : "fall"} `
-      + `at some cut of all cash, ${number(already)} without one`
-    : "At which cut each bank falls, to ten per mille so far";
-};
-
-/** The ticks below the slider: a bank falls. */
-const ticks = (falls) => {
-  const cuts = [...new Set(falls.map(([at]) => at).filter((at) => at > 0))].slice(0, 400);
-  by("ticks").replaceChildren(
-    ...cuts.map((at) => {
-      const tick = make("b", {});
-      tick.style.left = `${at / 10}%`;
-      return tick;
-    }),
+/** What the curve says. */
+const titleOf = (falls, known) => {
+  if (!falls.length) return "At which cut each bank falls";
+  if (!known.isExact) return "At which cut each bank falls, to ten per mille so far";
+  const already = falls.filter(({ cut }) => cut === 0).length;
+  return (
+    `${many(falls.length, "bank")} of ${number(known.high.length)} ${falls.length === 1 ? "falls" : "fall"} `
+    + `at some cut of all cash, ${number(already)} without one`
   );
 };
 
-/** The curve: how many banks are in default at each cut; a mark for each bank that opens it. */
-const chart = (context, falls, wide) => {
-  const tall = 200;
-  const left = 44;
-  const right = 16;
-  const top = 12;
-  const bottom = 32;
-  const most = falls.length;
-  const x = (at) => left + (wide - left - right) * at / MOST;
-  const y = (count) => tall - bottom - (tall - top - bottom) * count / Math.max(1, most);
-  let path = `M${x(0)},${y(0)}`;
-  let area = `${path}`;
-  falls.forEach(([at], place) => {
-    path += `H${x(at).toFixed(1)}V${y(place + 1).toFixed(1)}`;
-  });
-  path += `H${x(MOST)}`;
-  area = `${path}V${y(0)}H${x(0)}z`;
-  const steps = most <= 5 ? Array.from({ length: most + 1 }, (_, at) => at) : [0, Math.round(most / 2), most];
-  const svg = draw("svg", {
-    class: "chart",
-    width: Math.round(wide),
-    height: tall,
-    viewBox: `0 0 ${Math.round(wide)} ${tall}`,
-    role: "group",
-    "aria-label": "Banks in default by the cut of all cash",
-  });
-  svg.append(
-    draw("path", { class: "area", d: area }),
-    ...steps.map((count) => draw("path", { class: "grid", d: `M${left},${y(count)}H${wide - right}` })),
-    ...steps.map((count) => draw(
-      "text",
-      { class: "axis", x: left - 8, y: y(count) + 4, "text-anchor": "end" },
-      number(count),
-    )),
-    ...[0, 25, 50, 75, 100].map((percent) => draw(
+/** The chart of the curve. */
+class Chart {
+  /**
+   * @param {import("./desk.mjs").Desk} desk
+   * @param {import("./breaking.mjs").Fall[]} falls the least cut first
+   * @param {number} wide pixels
+   */
+  constructor(desk, falls, wide) {
+    this.desk = desk;
+    this.falls = falls;
+    this.wide = wide;
+  }
+
+  x(cut) {
+    return LEFT + (this.wide - LEFT - RIGHT) * cut / MOST;
+  }
+
+  y(count) {
+    return TALL - BOTTOM - (TALL - TOP - BOTTOM) * count / Math.max(1, this.falls.length);
+  }
+
+  draw() {
+    const wide = Math.round(this.wide);
+    const words = { role: "group", "aria-label": "Banks in default by the cut of all cash" };
+    return draw(
+      "svg",
+      { class: "chart", width: wide, height: TALL, viewBox: `0 0 ${wide} ${TALL}`, ...words },
+      draw("path", { class: "area", d: `${this.path()}V${this.y(0)}H${this.x(0)}z` }),
+      ...this.axes(),
+      draw("path", { class: "curve", d: this.path() }),
+      draw("path", { class: "now", d: `M${this.x(this.desk.view.cut)},${TOP}V${this.y(0)}` }),
+      ...this.marks(),
+    );
+  }
+
+  path() {
+    const steps = this.falls.map(({ cut }, at) => `H${this.x(cut).toFixed(1)}V${this.y(at + 1).toFixed(1)}`);
+    return `M${this.x(0)},${this.y(0)}${steps.join("")}H${this.x(MOST)}`;
+  }
+
+  axes() {
+    const most = this.falls.length;
+    const counts = most <= MOST_STEPS
+      ? Array.from({ length: most + 1 }, (_, at) => at)
+      : [0, Math.round(most / 2), most];
+    const anchor = (percent) => (percent === 100 ? "end" : percent ? "middle" : "start");
+    return [
+      ...counts.map((count) => draw("path", {
+        class: "grid",
+        d: `M${LEFT},${this.y(count)}H${this.wide - RIGHT}`,
+      })),
+      ...counts.map((count) => draw(
+        "text",
+        { class: "axis", x: LEFT - 8, y: this.y(count) + 4, "text-anchor": "end" },
+        number(count),
+      )),
+      ...PERCENTS.map((percent) => draw(
+        "text",
+        { class: "axis", x: this.x(10 * percent), y: TALL - 10, "text-anchor": anchor(percent) },
+        `${percent}%`,
+      )),
+    ];
+  }
+
+  /** A mark for each bank that opens it; of many banks for the chosen one alone, whose name stands there. */
+  marks() {
+    const chosen = this.desk.bank;
+    const isFew = this.falls.length <= AT_ONCE;
+    return this.falls.flatMap((fall, at) => [
+      isFew || fall.bank === chosen ? this.markOf(fall, at) : null,
+      fall.bank === chosen ? this.nameOf(fall, at) : null,
+    ]);
+  }
+
+  markOf({ bank, cut }, at) {
+    const words = `${this.desk.name(bank)} falls at ${cut / 10}%`;
+    const open = (event) => {
+      event.preventDefault();
+      event.stopPropagation();
+      this.desk.open(bank);
+    };
+    const kind = `fall ${bank === this.desk.bank ? "chosen" : ""}`;
+    const place = { cx: this.x(cut), cy: this.y(at + 1) };
+    return draw(
+      "a",
+      { class: kind, href: "#bank", "data-bank": bank, "aria-label": words, click: open },
+      draw("title", {}, words),
+      draw("circle", { class: "hit", ...place, r: HIT }),
+      draw("circle", { class: "dot", ...place, r: DOT }),
+    );
+  }
+
+  nameOf({ bank, cut }, at) {
+    const isRight = this.x(cut) > this.wide / 2;
+    const room = Math.min(NAME.wide, this.wide / 2 - LEFT - NAME.room);
+    const [line] = linesOf(this.desk.network.shown[bank], room, 1, FONTS.small);
+    return draw(
       "text",
       {
-        class: "axis",
-        x: x(10 * percent),
-        y: tall - 10,
-        "text-anchor": percent === 100 ? "end" : percent ? "middle" : "start",
+        class: "name small",
+        x: this.x(cut) + (isRight ? -NAME.aside : NAME.aside),
+        y: this.y(at + 1) - NAME.above,
+        "text-anchor": isRight ? "end" : "start",
       },
-      `${percent}%`,
-    )),
-    draw("path", { class: "curve", d: path }),
-    draw("path", { class: "now", d: `M${x(context.view.cut)},${top}V${y(0)}` }),
-  );
-  const shown = falls.length <= AT_ONCE ? falls : falls.filter(([, bank]) => bank === context.bank);
-  falls.forEach(([at, bank], place) => {
-    if (!shown.some(([, other]) => other === bank)) return;
-    svg.append(
-      draw(
-        "a",
-        {
-          class: `fall ${bank === context.bank ? "chosen" : ""}`,
-          href: "#bank",
-          "data-bank": bank,
-          "aria-label": `${context.name(bank)} falls at ${at / 10}%`,
-          click: (event) => {
-            event.preventDefault();
-            event.stopPropagation();
-            context.open(bank);
-          },
-        },
-        draw("title", {}, `${context.name(bank)} falls at ${at / 10}%`),
-        draw("circle", { class: "hit", cx: x(at), cy: y(place + 1), r: 10 }),
-        draw("circle", { class: "dot", cx: x(at), cy: y(place + 1), r: 4 }),
-      ),
+      `${line} ${cut / 10}%`,
     );
-    if (bank === context.bank) {
-      svg.append(
-        draw(
-          "text",
-          {
-            class: "name small",
-            x: x(at) + (x(at) > wide / 2 ? -10 : 10),
-            y: y(place + 1) - 8,
-            "text-anchor": x(at) > wide / 2 ? "end" : "start",
-          },
-          `${linesOf(context.network.shown[bank], Math.min(230, wide / 2 - left - 60), 1, 12)[0]} ${at / 10}%`,
-        ),
-      );
-    }
-  });
-  return svg;
+  }
+}
+
+/** Shows what is known for the state at hand. */
+const paint = (desk, known) => {
+  const { falls } = known;
+  const wide = Math.max(LEAST_WIDE, desk.curveWide || WIDE);
+  showTicks(falls);
+  by("curve-place").replaceChildren(...(falls.length ? [new Chart(desk, falls, wide).draw()] : []));
+  by("curve-title").textContent = titleOf(falls, known);
+  if (by("breaks") && desk.bank !== null) by("breaks").textContent = desk.breaking.words(desk.bank);
+  desk.showNext();
+};
+
+/**
+ * Asks at which cut each bank falls, and shows what comes.
+ * @param {import("./desk.mjs").Desk} desk
+ */
+export const askCurve = (desk) => desk.breaking.ask((known) => paint(desk, known));
+
+/**
+ * Shows what is known for the state at hand, and asks where the network is small.
+ * @param {import("./desk.mjs").Desk} desk
+ */
+export const showCurve = (desk) => {
+  const known = desk.breaking.known(desk.view);
+  paint(desk, known);
+  const isSmall = desk.view.state.length <= AT_ONCE;
+  by("ask-curve").hidden = known.isWhole || isSmall;
+  if (isSmall) askCurve(desk);
 };

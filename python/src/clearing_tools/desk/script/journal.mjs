@@ -1,58 +1,76 @@
 // Plays the journal of a state, by the player that the report has, in a drawing of its own.
-import { amountsOf } from "./amounts.mjs";
+import { Amounts } from "./amounts.mjs";
 import { see } from "./ask.mjs";
-import { many } from "./numbers.mjs";
-import { by } from "./parts.mjs";
+import { by, draw } from "./elements.mjs";
 import { playJournal } from "./player.mjs";
 
-let ends = null;
-
-/** Takes the player away. */
-export const endJournal = () => {
-  ends?.abort();
-  ends = null;
-  by("player-place").replaceChildren();
-  by("journal-picture").replaceChildren();
-};
+const SCALE = 1.1; // of the drawing against its own size
 
 /** The drawing of the server, in which all names are escaped. */
-const drawingOf = (picture) => {
-  const [x0, y0, x1, y1] = picture.box;
-  const svg = document.createElementNS("http://www.w3.org/2000/svg", "svg");
-  svg.setAttribute("class", `net chart ${picture.form}`);
-  svg.setAttribute("viewBox", [x0, y0, x1 - x0, y1 - y0].join(" "));
-  svg.setAttribute("width", Math.round(1.1 * (x1 - x0)));
-  svg.setAttribute("role", "group");
-  svg.setAttribute("aria-label", "The network while the journal is played");
-  svg.innerHTML = picture.body;
+const drawingOf = ({ box: [left, top, right, bottom], form, body }) => {
+  const [width, height] = [right - left, bottom - top];
+  const svg = /** @type {SVGSVGElement} */ (draw("svg", {
+    class: `net chart ${form}`,
+    viewBox: [left, top, width, height].join(" "),
+    width: Math.round(SCALE * width),
+    role: "group",
+    "aria-label": "The network while the journal is played",
+  }));
+  svg.innerHTML = body;
   return svg;
 };
 
-/** Shows the player for a state, where d3 is there. */
-export const showJournal = async (context) => {
-  if (!globalThis.d3) {
-    by("journal-told").textContent =
-      "The journal is played by d3, Debian's package node-d3, which is not there.";
-    return;
+/** The part of the page in which a journal is played. */
+export class JournalPart {
+  /** @param {import("./desk.mjs").Desk} desk */
+  constructor(desk) {
+    this.desk = desk;
+    this.listening = null; // of the player to the window, while there is one
   }
-  const { view } = context;
-  by("journal-told").textContent = "The program is asked.";
-  const { value, fault } = await see(`journal/${view.id}`);
-  if (view !== context.view) return;
-  by("journal-told").textContent = fault
-    ? fault.said
-    : view.keep === context.base.keep
-    ? ""
-    : "This is the journal of the clearing without costs of default.";
-  if (fault) return;
-  endJournal();
-  ends = new AbortController();
-  const { signal } = ends;
-  by("journal-picture").replaceChildren(drawingOf(value.picture));
-  by("player-place").replaceChildren(by("player-of-a-journal").content.cloneNode(true));
-  const { d3 } = globalThis;
-  const svg = d3.select("#journal-picture > svg");
-  const listen = (event, work) => addEventListener(event, work, { signal });
-  playJournal({ data: value.data, by, d3, svg, many, addEventListener: listen, ...amountsOf(value.data) });
-  by("play").focus();
-};
+
+  /** Takes the player away. */
+  end() {
+    this.listening?.abort();
+    this.listening = null;
+    by("player-place").replaceChildren();
+    by("journal-picture").replaceChildren();
+  }
+
+  /** Takes the player away, and what is told of it. */
+  leave() {
+    this.end();
+    this.tell("");
+  }
+
+  tell(words) {
+    by("journal-told").textContent = words;
+  }
+
+  /** Shows the player for the state at hand, where d3 is there. */
+  async play() {
+    const { d3 } = /** @type {any} */ (globalThis);
+    if (!d3) {
+      this.tell("The journal is played by d3, Debian's package node-d3, which is not there.");
+      return;
+    }
+    const { view, base } = this.desk;
+    this.tell("The program is asked.");
+    const { value, fault } = await see(`journal/${view.id}`);
+    if (view !== this.desk.view) return;
+    const costs = view.keep === base.keep ? "" : "This is the journal of the clearing without costs of default.";
+    this.tell(fault ? fault.said : costs);
+    if (!fault) this.show(value, d3);
+  }
+
+  /** Shows the player in the drawing that the server sent. */
+  show({ picture, data }, d3) {
+    this.end();
+    this.listening = new AbortController();
+    const svg = drawingOf(picture);
+    const player = /** @type {HTMLTemplateElement} */ (by("player-of-a-journal"));
+    by("journal-picture").replaceChildren(svg);
+    by("player-place").replaceChildren(player.content.cloneNode(true));
+    playJournal(data, new Amounts(data), svg, d3, this.listening.signal);
+    by("play").focus();
+  }
+}

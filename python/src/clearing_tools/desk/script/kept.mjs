@@ -1,69 +1,56 @@
 // States that are kept under names, and which of them the state at hand is held against.
 import { post } from "./ask.mjs";
-import { number } from "./numbers.mjs";
-import { by, make, showFault } from "./parts.mjs";
+import { by, fieldBy, make } from "./elements.mjs";
+import { showFault } from "./fields.mjs";
 
-/** The name under which a state is kept, or words for one that is not. */
-export const nameOf = (context, view) =>
-  context.kept.find((one) => one.state === view.id)?.name ?? wordsOf(context, view);
+const dialog = () => /** @type {HTMLDialogElement} */ (by("keep-dialog"));
 
-/** Words for a state by what was changed. */
-const wordsOf = (context, view) => {
-  const parts = [];
-  if (view.scenario) parts.push(context.network.scenarios[view.scenario - 1].name);
-  if (view.cut && !(view.scenario && context.network.scenarios[view.scenario - 1].cut === view.cut)) {
-    parts.push(`Cut ${number(view.cut)}`);
-  }
-  if (view.keep !== context.base.keep) parts.push(`Keeps ${number(view.keep)}`);
-  return parts.join(", ") || "This state";
-};
-
-/** Shows the kept states as tabs, and the state at hand where it is none of them. */
-export const showKept = (context) => {
-  const { kept, view } = context;
-  const isKept = kept.some((one) => one.state === view.id);
-  const tab = (name, state, isHere, note) => make(
+/** The tabs: the kept states, the state at hand where it is none of them, and a button that keeps it. */
+const tabsOf = (desk) => {
+  const { kept, view } = desk;
+  const isKept = Boolean(desk.keptAs(view));
+  const tab = (name, state, note = "") => make(
     "button",
     {
       type: "button",
-      "aria-current": isHere ? "page" : null,
+      "aria-current": state === view.id ? "page" : null,
       "data-state": state,
       title: note || null,
-      click: () => context.go(state),
+      click: () => desk.go(state),
     },
     name,
   );
-  by("tabs").replaceChildren(
-    ...kept.map((one) => tab(one.name, one.state, one.state === view.id, one.note)),
-    ...(isKept ? [] : [tab(`${nameOf(context, view)} (not kept)`, view.id, true, "")]),
-    make(
-      "button",
-      {
-        type: "button",
-        id: "keep-open",
-        class: "plus",
-        "aria-haspopup": "dialog",
-        click: () => openKeep(context),
-      },
-      isKept ? "Name and note" : "+ Keep",
-    ),
-  );
-  requestAnimationFrame(showTab);
-  const options = [
-    ...kept.map((one) => [`state-${one.state}`, one.name]),
-    ...context.network.others.map((one, at) => [
-      `case-${at + 1}`,
-      [one.title, one.asOf].filter(Boolean).join(", "),
-    ]),
+  const opens = { type: "button", id: "keep-open", class: "plus", "aria-haspopup": "dialog" };
+  return [
+    ...kept.map(({ name, state, note }) => tab(name, state, note)),
+    ...(isKept ? [] : [tab(`${desk.nameOf(view)} (not kept)`, view.id)]),
+    make("button", { ...opens, click: () => openKeep(desk) }, isKept ? "Name and note" : "+ Keep"),
   ];
-  by("against").replaceChildren(
-    ...options.map(([value, words]) => make(
-      "option",
-      { value, selected: value === context.againstKey },
-      words,
-    )),
-  );
-  by("now-name").textContent = nameOf(context, view);
+};
+
+/** The choices of what is held against: the kept states, and the other cases. */
+const choicesOf = ({ kept, network, againstKey }) => {
+  const states = kept.map(({ state, name }) => [`state-${state}`, name]);
+  const cases = network.others.map(({ title, asOf }, at) => [
+    `case-${at + 1}`,
+    [title, asOf].filter(Boolean).join(", "),
+  ]);
+  return [...states, ...cases].map(([value, words]) => make(
+    "option",
+    { value, selected: value === againstKey },
+    words,
+  ));
+};
+
+/**
+ * Shows the kept states as tabs, and what the state at hand can be held against.
+ * @param {import("./desk.mjs").Desk} desk
+ */
+export const showKept = (desk) => {
+  by("tabs").replaceChildren(...tabsOf(desk));
+  requestAnimationFrame(showTab);
+  by("against").replaceChildren(...choicesOf(desk));
+  by("now-name").textContent = desk.nameOf(desk.view);
 };
 
 /** Brings the tab of the state at hand into view, sideways alone: the page stays where it is. */
@@ -75,43 +62,55 @@ const showTab = () => {
   if (here && here.right > box.right) tabs.scrollLeft += here.right - box.right;
 };
 
-const openKeep = (context) => {
-  const { view, kept } = context;
-  const one = kept.find(({ state }) => state === view.id);
-  by("keep-name").value = one?.name ?? wordsOf(context, view);
-  by("keep-note").value = one?.note ?? "";
+/** Opens the form in which the state at hand is named. */
+const openKeep = (desk) => {
+  const { view } = desk;
+  const one = desk.keptAs(view);
+  fieldBy("keep-name").value = one?.name ?? desk.wordsOf(view);
+  fieldBy("keep-note").value = one?.note ?? "";
   by("drop").hidden = !one || view.id === 0;
   showFault("keep-name", null);
-  by("keep-dialog").showModal();
-  by("keep-name").select();
+  dialog().showModal();
+  fieldBy("keep-name").select();
 };
 
-/** Listens to the form in which a state is named. */
-export const listenKept = (context) => {
-  const done = ({ value, fault }) => {
-    if (fault) {
-      if (!showFault("keep-name", fault)) context.trouble(fault);
-      return;
-    }
-    context.kept = value;
-    by("keep-dialog").close();
-    context.renamed();
-  };
+/** Keeps the state at hand under the name that is typed. Another name takes the place of the one before. */
+const keep = async (desk) => {
+  const { id } = desk.view;
+  const one = desk.keptAs(desk.view);
+  const name = fieldBy("keep-name").value.trim();
+  const kept = await post("keep", { state: id, name, note: fieldBy("keep-note").value });
+  const isRenamed = !kept.fault && one && one.name !== name && id !== 0;
+  return isRenamed ? post("drop", { name: one.name }) : kept;
+};
+
+/**
+ * Takes the states that are kept from now on, or shows why they stay as they were.
+ * @param {import("./desk.mjs").Desk} desk
+ * @param {import("./ask.mjs").Answer} answer
+ */
+const take = (desk, { value, fault }) => {
+  if (fault) {
+    if (!showFault("keep-name", fault)) desk.trouble(fault);
+    return;
+  }
+  desk.kept = value;
+  dialog().close();
+  desk.showAgain();
+};
+
+/**
+ * Listens to the form in which a state is named, and to the list of what it is held against.
+ * @param {import("./desk.mjs").Desk} desk
+ */
+export const listenKept = (desk) => {
   by("keep-form").addEventListener("submit", async (event) => {
     event.preventDefault();
-    const one = context.kept.find(({ state }) => state === context.view.id);
-    const name = by("keep-name").value.trim();
-    const kept = await post("keep", { state: context.view.id, name, note: by("keep-note").value });
-    // Another name takes the place of the one before.
-    done(
-      !kept.fault && one && one.name !== name && one.state !== 0
-        ? await post("drop", { name: one.name })
-        : kept,
-    );
+    take(desk, await keep(desk));
   });
-  by("keep-cancel").addEventListener("click", () => by("keep-dialog").close());
-  by("drop").addEventListener("click", async () => done(
-    await post("drop", { name: context.kept.find(({ state }) => state === context.view.id).name }),
-  ));
-  by("against").addEventListener("change", (event) => context.holdAgainst(event.target.value));
+  by("keep-cancel").addEventListener("click", () => dialog().close());
+  by("drop").addEventListener("click", async () => {
+    take(desk, await post("drop", { name: desk.keptAs(desk.view).name }));
+  });
+  by("against").addEventListener("change", () => desk.holdAgainst(fieldBy("against").value));
 };

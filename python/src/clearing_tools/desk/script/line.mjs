@@ -1,7 +1,8 @@
 // The way through the states: what was done, what is undone, and what can be done again.
 
+/** The states one after another, by their numbers, and which of them is at hand. */
 export class Line {
-  /** The states from the first to the one at hand. */
+  /** @param {number[]} states from the first to the one at hand */
   constructor(states) {
     this.states = [...states];
     this.at = this.states.length - 1;
@@ -23,8 +24,9 @@ export class Line {
   }
 
   /**
-   * Goes on to a state; what was undone is gone. With `instead` it takes the place of the one at hand, as while a
-   * slider moves.
+   * Goes on to a state; what was undone is gone.
+   * @param {number} state
+   * @param {boolean} [instead] whether it takes the place of the one at hand, as while a slider moves
    */
   go(state, instead = false) {
     if (state === this.now) return;
@@ -33,13 +35,19 @@ export class Line {
     this.at = this.states.length - 1;
   }
 
-  /** Steps back, and answers the state. */
+  /**
+   * Steps back.
+   * @returns {number} the state that is then at hand
+   */
   undo() {
     if (this.at) this.at -= 1;
     return this.now;
   }
 
-  /** Steps on again, and answers the state. */
+  /**
+   * Steps on again.
+   * @returns {number} the state that is then at hand
+   */
   redo() {
     if (this.at < this.states.length - 1) this.at += 1;
     return this.now;

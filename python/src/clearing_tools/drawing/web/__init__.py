@@ -11,7 +11,7 @@ SCRIPTS = FOLDER / "script"
 D3 = ["/usr/share/nodejs/d3/dist/d3.min.js", "/usr/share/javascript/d3/d3.min.js"]
 """Where the library d3 may be, as packages of Debian have it."""
 IMPORT = re.compile(r'^import \{ ([\w, ]+) \} from "\./([\w-]+\.mjs)";\n', re.MULTILINE)
-EXPORT = re.compile(r"^export (?=const (\w+))", re.MULTILINE)
+EXPORT = re.compile(r"^export (?=(?:const|class) (\w+))", re.MULTILINE)
 
 
 def tokens() -> str:

@@ -1,28 +1,54 @@
 """How many banks stand at each cut of all cash."""
-from typing import List, NamedTuple, Tuple
+from typing import List, NamedTuple, Optional, Tuple
+
+from clearing_client.format import MAX_CUT
 
 from ...drawing import lettering, svg
-from ...labels import count, percent, shown
-from ..matter import Matter, begun, counted
+from ...labels import count, shown
+from ..matter import Matter
+from ..words import begun, counted, cut_words
 from .figure import HALF, PHONE, WIDE, Data, Figure, half
 
 TALL, TOP, BELOW, LEFT = 200.0, 16.0, 32.0, 40.0
 STEP, TALLEST = 16.0, 360.0  # a bank's step has room for its name, up to so tall a chart
-MOST_NAMES = 12
+NARROW = 500  # pixels below which a second panel stands below the first
+NAMES, NO_NAMES = 130.0, 24.0  # what the names right of the curve take, and what is left without
+MOST_NAMES, MOST_NAMED = 12, 40  # names that are written, and banks that fall up to which there are names
+LINE, LETTERS = 14, 12  # from name to name, and the size of names
 ZOOM = 0.5  # a first fall beyond that share of the range is drawn a second time, larger
+ROUND = 20  # the second panel begins at a multiple of so many per mille, and
+MARGIN = 10  # at least so many below the first fall
+FIRST = 0.3  # the share of the width that the whole range then has
+GAP, GAP_BELOW = 56, 32  # between two panels beside, and below each other
 
 
 class Panel(NamedTuple):
-    """A part of the chart: from which cut on, its left and right ends, and its top."""
+    """A part of the chart: from which cut on, its left and right ends, its top, how many banks its height stands for,
+    and how tall it is."""
 
     first: int
     left: float
     right: float
     top: float
+    most: int
+    tall: float
+
+    def x(self, cut: float) -> float:
+        """Where a cut stands."""
+        return self.left + (self.right - self.left) * (cut - self.first) / (MAX_CUT - self.first)
+
+    def y(self, number: int) -> float:
+        """Where a number of banks stands."""
+        return self.top + self.tall * (1 - number / self.most)
+
+    @property
+    def bottom(self) -> float:
+        """Where no bank stands."""
+        return self.top + self.tall
 
 
 def tall_of(matter: Matter) -> float:
-    """How tall the chart is."""
+    """How tall a panel is."""
     return min(max(TALL, STEP * len(matter.banks)), TALLEST)
 
 
@@ -45,104 +71,113 @@ def title_of(matter: Matter) -> str:
     if not matter.near:
         return f"{stand} at any cut of all cash"
     first = matter.near[0]
-    title = f"{stand} until a cut of {percent(first.cut, 1000)} of all cash"
+    title = f"{stand} until a cut of {cut_words(first.cut)} of all cash"
     at_end = standing(matter)[-1][1]
     if at_end:
         return f"{title}; {counted(at_end)} at any cut"
     return title + ("; then one after another falls" if len(matter.near) > 1 else "")
 
 
-def path_of(steps: List[Tuple[int, int]], panel: Panel, most: int, tall: float) -> str:
+def path_of(steps: List[Tuple[int, int]], panel: Panel) -> str:
     """The curve within a panel."""
-    across = (panel.right - panel.left) / (1000 - panel.first)
-
-    def y(number: int) -> float:
-        return panel.top + tall * (1 - number / most)
-
     before = [number for cut, number in steps if cut <= panel.first][-1]
-    path = f"M{panel.left:.1f} {y(before):.1f}"
+    path = f"M{panel.left:.1f} {panel.y(before):.1f}"
     for cut, number in steps:
         if cut > panel.first:
-            path += f"H{panel.left + across * (cut - panel.first):.1f}V{y(number):.1f}"
+            path += f"H{panel.x(cut):.1f}V{panel.y(number):.1f}"
     return path + f"H{panel.right:.1f}"
 
 
-def apart(number: int, most: int, tall: float) -> List[int]:
-    """A number of banks where its words have room between 0 and all of them."""
-    return [number] if 16 <= tall * number / most <= tall - 16 else []
+def numbers_at(matter: Matter, panel: Panel) -> List[int]:
+    """The numbers of banks that the axis has: none, all, and those that stand where their words have room."""
+    stand, room = len(matter.sound), panel.tall * len(matter.sound) / panel.most
+    return sorted({0, panel.most, *([stand] if STEP <= room <= panel.tall - STEP else [])})
 
 
 def draw_panel(chart: svg.Svg, matter: Matter, panel: Panel) -> None:
     """The axes and the curve of a panel."""
-    most, tall = max(len(matter.banks), 1), tall_of(matter)
-    bottom = panel.top + tall
-    for number in sorted({0, most, *apart(len(matter.sound), most, tall)}):
-        y = panel.top + tall * (1 - number / most)
+    for number in numbers_at(matter, panel):
+        y = panel.y(number)
         chart.line(f"M{panel.left:.1f} {y:.1f}H{panel.right:.1f}", "grid")
         chart.text(panel.left - 8, y + 4, f"{number:,}", "ax", "end")
-    path = path_of(standing(matter), panel, most, tall)
-    chart.line(f"{path}V{bottom:.1f}H{panel.left:.1f}z", "area")
+    path = path_of(standing(matter), panel)
+    chart.line(f"{path}V{panel.bottom:.1f}H{panel.left:.1f}z", "area")
     chart.line(path, "curve")
     parts = 4 if panel.right - panel.left > 150 else 2
     for at in range(parts + 1):
-        cut, x = panel.first + (1000 - panel.first) * at / parts, panel.left + (panel.right - panel.left) * at / parts
-        chart.line(f"M{x:.1f} {bottom:.1f}v5", "tick")
-        chart.text(x, bottom + 20, f"{cut / 10:.0f}%" if cut % 10 < 0.01 else f"{cut / 10:.1f}%", "ax", "middle")
+        cut = panel.first + (MAX_CUT - panel.first) * at / parts
+        x = panel.x(cut)
+        chart.line(f"M{x:.1f} {panel.bottom:.1f}v5", "tick")
+        word = f"{cut / 10:.0f}%" if cut % 10 < 0.01 else f"{cut / 10:.1f}%"
+        chart.text(x, panel.bottom + 20, word, "ax", "middle")
 
 
-def draw_names(chart: svg.Svg, matter: Matter, panel: Panel, wide: float) -> None:
+def draw_names(chart: svg.Svg, matter: Matter, panel: Panel) -> None:
     """The names of the banks that fall first, each right of its step; one without room of its own is left out."""
-    most, tall, lowest = max(len(matter.banks), 1), tall_of(matter), panel.top
+    lowest = panel.top
     for at, cut in enumerate(matter.near[:MOST_NAMES]):
-        step = panel.left + (panel.right - panel.left) * (cut.cut - panel.first) / (1000 - panel.first)
-        y = panel.top + tall * (1 - (len(matter.sound) - at) / most) + 13
+        step, y = panel.x(cut.cut), panel.y(len(matter.sound) - at) + LINE - 1
         if y < lowest:
             continue
-        lowest = y + 14
-        words = f" {percent(cut.cut, 1000)}"
-        room = wide - step - 10 - lettering.width_of(words, 12)
+        lowest = y + LINE
+        words = f" {cut_words(cut.cut)}"
+        wide = lettering.width_of(words, LETTERS)
         name = shown(matter.marked(cut.bank))
-        short = lettering.cut(name, max(room, 72), 12, True)
+        short = lettering.cut(name, max(chart.width - step - 10 - wide, 72), LETTERS, True)
         whole = f"<title>{svg.text_of(name)}</title>" if short != name else ""
-        x = min(step + 6, wide - lettering.width_of(short, 12, True) - lettering.width_of(words, 12) - 2)
+        x = min(step + 6, chart.width - lettering.width_of(short, LETTERS, True) - wide - 2)
         chart.add(
             f'<text class="nm2" x="{x:.1f}" y="{y:.1f}">{svg.text_of(short)}<tspan class="sub">{words}'
             f'</tspan>{whole}</text>'
         )
 
 
-def chart_of(matter: Matter, wide: float) -> svg.Svg:
-    """The chart at a width: the whole range, and where all falls come late the same from there on, beside or below."""
-    is_narrow = wide < 500
-    first = matter.near[0].cut if matter.near else 1000
-    zoom = 20 * ((first - 10) // 20) if matter.near and first > 1000 * ZOOM and first < 1000 else None
-    names = 130.0 if matter.near and len(matter.near) <= 40 else 24.0
-    tall = tall_of(matter)
-    chart = svg.Svg(wide, TOP + tall + BELOW, "How many banks stand at each cut of all cash")
-    if zoom is None:
-        panel = Panel(0, LEFT, wide - names, TOP)
-    elif is_narrow:
-        panel = Panel(0, LEFT, wide - 20, TOP)
-    else:
-        panel = Panel(0, LEFT, LEFT + (wide - LEFT) * 0.3, TOP)
-    draw_panel(chart, matter, panel)
+def zoom_of(matter: Matter) -> Optional[int]:
+    """From which cut on the range is drawn a second time; nothing where it is not."""
+    first = matter.near[0].cut if matter.near else MAX_CUT
+    return ROUND * ((first - MARGIN) // ROUND) if MAX_CUT * ZOOM < first < MAX_CUT else None
+
+
+def draw_defaults(chart: svg.Svg, matter: Matter, panel: Panel) -> None:
+    """How many banks are in default at no cut, where there is room above the curve."""
     default = len(matter.banks) - len(matter.sound)
-    if default * tall / max(len(matter.banks), 1) > 40:
+    if default * panel.tall / panel.most > 40:
         chart.text(panel.left + 8, panel.top + 16, f"{count(default, 'bank')} in default", "nm2 halo")
         chart.text(panel.left + 8, panel.top + 32, "at no cut", "sub halo")
-    if zoom is None:
-        if len(matter.near) <= 40:
-            draw_names(chart, matter, panel, wide)
-        return chart
-    if is_narrow:
-        below = chart.height + 32
-        chart.text(LEFT, below - 8, f"The same from {zoom / 10:.0f}% on", "nm2")
-        second, chart.height = Panel(zoom, LEFT, wide - 132, below), below + tall + BELOW
+
+
+def draw_zoomed(chart: svg.Svg, matter: Matter, first: Panel, zoom: int) -> None:
+    """The same from a cut on, beside the first panel or below it."""
+    begin = f"{zoom / 10:.0f}%"
+    if chart.width < NARROW:
+        below = chart.height + GAP_BELOW
+        chart.text(LEFT, below - 8, f"The same from {begin} on", "nm2")
+        panel, chart.height = first._replace(right=chart.width - NAMES - 2, top=below), below + first.tall + BELOW
     else:
-        second = Panel(zoom, panel.right + 56, wide - names, TOP)
-        chart.text(second.left + 8, TOP - 4, f"the same from {zoom / 10:.0f}% on", "sub")
-    draw_panel(chart, matter, second)
-    draw_names(chart, matter, second, wide)
+        panel = first._replace(left=first.right + GAP, right=chart.width - names_of(matter))
+        chart.text(panel.left + 8, TOP - 4, f"the same from {begin} on", "sub")
+    panel = panel._replace(first=zoom)
+    draw_panel(chart, matter, panel)
+    draw_names(chart, matter, panel)
+
+
+def names_of(matter: Matter) -> float:
+    """What the names right of the curve take."""
+    return NAMES if matter.near and len(matter.near) <= MOST_NAMED else NO_NAMES
+
+
+def chart_of(matter: Matter, wide: float) -> svg.Svg:
+    """The chart at a width: the whole range, and where all falls come late the same from there on, beside or below."""
+    zoom, tall = zoom_of(matter), tall_of(matter)
+    chart = svg.Svg(wide, TOP + tall + BELOW, "How many banks stand at each cut of all cash")
+    right = wide - names_of(matter) if zoom is None else wide - 20 if wide < NARROW else LEFT + (wide - LEFT) * FIRST
+    panel = Panel(0, LEFT, right, TOP, max(len(matter.banks), 1), tall)
+    draw_panel(chart, matter, panel)
+    draw_defaults(chart, matter, panel)
+    if zoom is not None:
+        draw_zoomed(chart, matter, panel, zoom)
+    elif len(matter.near) <= MOST_NAMED:
+        draw_names(chart, matter, panel)
     return chart
 
 
@@ -151,6 +186,6 @@ def figure_of(matter: Matter) -> Figure:
     charts = half(*(chart_of(matter, wide) for wide in (PHONE, WIDE, HALF)))
     data = Data(
         ("bank", "least_cut_per_mille", "label_then"),
-        [(cut.bank, cut.cut if cut.cut <= 1000 else "", cut.state) for cut in matter.cuts],
+        [(cut.bank, cut.cut if cut.cut <= MAX_CUT else "", cut.state) for cut in matter.cuts],
     )
     return Figure("breaking", title_of(matter), "Banks that stand, by the cut of all cash", charts, "breaking", data)

@@ -1,27 +1,44 @@
-// Amounts as text, to the last digit, as the page has them.
-export const amountsOf = (data) => {
-  const number = (units) => {
-    const sign = units < 0 ? "\u2212" : "";
-    const digits = (BigInt(Math.abs(units)) * BigInt(data.mantissa)).toString().padStart(
-      data.places + 1,
-      "0",
-    );
-    const whole = digits.slice(0, digits.length - data.places);
-    return (
-      sign + whole.replace(/\B(?=(\d{3})+$)/g, ",") + (data.places ? "." + digits.slice(-data.places) : "")
-    );
-  };
-  const money = (units) =>
-    data.currency
-      ? `${data.currency} ${number(units)}`
-      : data.bare
-      ? `${number(units)} ${units === 1 ? "unit" : "units"}`
-      : number(units);
-  return { number, money };
-};
+// Amounts as text, to the last digit, as the report and the player have them.
+import { decimal } from "./texts.mjs";
 
-// One form for all numbers: to make one for each is what takes long.
-const FORM = new Intl.NumberFormat("en-US");
+/** The amounts of a page, in its currency. */
+export class Amounts {
+  /**
+   * @param {{mantissa: string, places: number, currency: string | null, bare: boolean}} data what a unit of account
+   *   is worth, as a whole number of so many decimal places; its currency; and whether amounts are bare units
+   */
+  constructor({ mantissa, places, currency, bare }) {
+    this.mantissa = BigInt(mantissa);
+    this.places = places;
+    this.currency = currency;
+    this.isBare = bare;
+  }
 
-// A count with its noun.
-export const many = (count, one) => `${FORM.format(count)} ${one}${count === 1 ? "" : "s"}`;
+  /**
+   * An amount without its currency.
+   * @param {number} units units of account
+   * @returns {string}
+   */
+  number(units) {
+    return decimal(units, this.mantissa, this.places);
+  }
+
+  /**
+   * An amount in a sentence: with its currency, or with the word for units.
+   * @param {number} units units of account
+   * @returns {string}
+   */
+  money(units) {
+    if (this.currency) return `${this.currency} ${this.number(units)}`;
+    return this.isBare ? `${this.number(units)} ${units === 1 ? "unit" : "units"}` : this.number(units);
+  }
+
+  /**
+   * What an amount is worth, as a number that a scale can have.
+   * @param {number} units units of account
+   * @returns {number}
+   */
+  worth(units) {
+    return units * (Number(this.mantissa) / 10 ** this.places);
+  }
+}

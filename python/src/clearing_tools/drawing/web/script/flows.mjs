@@ -1,51 +1,85 @@
-// The debts of the picture: how wide each is, and where its arrow begins, by what stays unpaid of it.
-export const widthFor = (unpaid, most, [least, widest]) => (
-  unpaid > 0 && most ? Math.max(least, widest * Math.min(1, unpaid / most)) : 1
+// The debts of the picture while a journal is played: how wide each is, and where its arrow begins, by what stays
+// unpaid of it. The picture is that of the package for Python, whose module `ring` has the same sizes.
+import { setAll } from "./elements.mjs";
+
+const PAID = 1; // the width of a debt that is paid in full, in pixels
+const CASE = 3; // by how much wider the ground about a debt is
+const SQUARE = 32; // the side of the largest square of a matrix
+const LEAST_SQUARE = 3; // the side of the least one
+
+/**
+ * The width of a debt.
+ * @param {number} unpaid units that stay unpaid of it
+ * @param {number} most the units that the widest stands for
+ * @param {[number, number]} widths the least and the greatest width of one that is unpaid, in pixels
+ * @returns {number} pixels
+ */
+const widthFor = (unpaid, most, [least, widest]) => (
+  unpaid > 0 && most ? Math.max(least, widest * Math.min(1, unpaid / most)) : PAID
 );
 
-// The line up to its arrow, and the arrow, for a line of this width; `points` are the start, the bend and the point
-// of the arrow.
-export const pathsOf = ([ax, ay, bx, by, cx, cy], width) => {
-  const angle = Math.atan2(by - cy, bx - cx);
+/**
+ * The side of a square of a matrix, whose area is what stays unpaid.
+ * @param {number} unpaid units
+ * @param {number} most the units that the largest stands for
+ * @returns {number} pixels
+ */
+const sideFor = (unpaid, most) => (
+  unpaid > 0 && most ? Math.max(LEAST_SQUARE, SQUARE * Math.sqrt(Math.min(1, unpaid / most))) : LEAST_SQUARE
+);
+
+const text = (...numbers) => numbers.map((number) => number.toFixed(1)).join(" ");
+
+/**
+ * The line of a debt up to its arrow, and the arrow.
+ * @param {number[]} points the start, the bend and the point of the arrow, each as x and y
+ * @param {number} width pixels
+ * @returns {[string, string]} both as paths
+ */
+const pathsOf = ([startX, startY, bendX, bendY, endX, endY], width) => {
+  const angle = Math.atan2(bendY - endY, bendX - endX);
   const head = Math.max(6, 0.95 * width + 5);
-  const x = cx + head * Math.cos(angle);
-  const y = cy + head * Math.sin(angle);
+  const neckX = endX + head * Math.cos(angle);
+  const neckY = endY + head * Math.sin(angle);
   const across = (width / 2 + 2.1) * -Math.sin(angle);
   const down = (width / 2 + 2.1) * Math.cos(angle);
-  const text = (...numbers) => numbers.map((number) => number.toFixed(1)).join(" ");
   return [
-    `M${text(ax, ay)}Q${text(bx, by, x, y)}`,
-    `M${text(cx, cy)}L${text(x + across, y + down)}L${text(x - across, y - down)}z`,
+    `M${text(startX, startY)}Q${text(bendX, bendY, neckX, neckY)}`,
+    `M${text(endX, endY)}L${text(neckX + across, neckY + down)}L${text(neckX - across, neckY - down)}z`,
   ];
 };
 
-// The side of a square of a matrix.
-export const sideFor = (unpaid, most) => (
-  unpaid > 0 && most ? Math.max(3, 32 * Math.sqrt(Math.min(1, unpaid / most))) : 3
-);
+/** Draws a square of a matrix about its middle. */
+const drawSquare = (group, unpaid, most) => {
+  group.classList.toggle("over", "over" in group.dataset && unpaid > most);
+  const [x, y] = group.dataset.middle.split(" ").map(Number);
+  const side = sideFor(unpaid, most);
+  const sizes = { x: x - side / 2, y: y - side / 2, width: side, height: side };
+  for (const [name, size] of Object.entries(sizes)) {
+    group.querySelector(".sq").setAttribute(name, size.toFixed(1));
+  }
+};
 
-// Draws a debt, or a square of a matrix, of which so much stays unpaid.
+/** Draws a debt as a line with an arrow, along the curve that it has. */
+const drawArrow = (group, width) => {
+  const [line, tip] = pathsOf(group.dataset.curve.split(" ").map(Number), width);
+  setAll(group.querySelector(".line"), { d: line, "stroke-width": width.toFixed(1) });
+  setAll(group.querySelector(".case"), { d: line, "stroke-width": (width + CASE).toFixed(1) });
+  setAll(group.querySelector(".tip"), { d: tip });
+};
+
+/**
+ * Draws a debt, or a square of a matrix, of which so much stays unpaid.
+ * @param {SVGElement} group the elements of the debt in the picture
+ * @param {number} unpaid units
+ * @param {number} most the units that the widest line or the largest square stands for
+ * @param {[number, number]} widths the least and the greatest width of a line that is unpaid, in pixels
+ */
 export const drawFlow = (group, unpaid, most, widths) => {
   group.classList.toggle("done", unpaid <= 0);
   if (group.dataset.middle) {
-    group.classList.toggle("over", "over" in group.dataset && unpaid > most);
-    const [x, y] = group.dataset.middle.split(" ").map(Number);
-    const side = sideFor(unpaid, most);
-    const square = group.querySelector(".sq");
-    for (const [name, value] of Object.entries({
-      x: x - side / 2,
-      y: y - side / 2,
-      width: side,
-      height: side,
-    })) square.setAttribute(name, value.toFixed(1));
-    return;
+    drawSquare(group, unpaid, most);
+  } else {
+    drawArrow(group, widthFor(unpaid, most, widths));
   }
-  const width = widthFor(unpaid, most, widths);
-  const [line, tip] = pathsOf(group.dataset.curve.split(" ").map(Number), width);
-  for (const [part, more] of [[".line", 0], [".case", 3]]) {
-    const path = group.querySelector(part);
-    path.setAttribute("d", line);
-    path.setAttribute("stroke-width", (width + more).toFixed(1));
-  }
-  group.querySelector(".tip").setAttribute("d", tip);
 };

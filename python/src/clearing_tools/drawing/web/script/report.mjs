@@ -1,19 +1,20 @@
-// The page works without this: it adds sorting, filters, pages, files, the bank under the pointer, and the player
-// of the journal. The library d3 does what is not particular to this page.
-import { amountsOf, many } from "./amounts.mjs";
-import { bankTable } from "./banks.mjs";
+// The page of the report works without this: it adds sorting, filters, pages, files, the bank under the pointer, and
+// the player of the journal, by the library d3.
+import { Amounts } from "./amounts.mjs";
+import { layParts } from "./bankpart.mjs";
+import { BankTable } from "./banktable.mjs";
 import { showChosen } from "./chosen.mjs";
-import { giveFiles } from "./files.mjs";
-import { layParts } from "./parts.mjs";
+import { by } from "./elements.mjs";
 import { playJournal } from "./player.mjs";
+import { giveFiles } from "./reportfiles.mjs";
 
-const data = JSON.parse(document.getElementById("data").textContent);
-const by = (key) => document.getElementById(key);
-const svg = d3.select("svg.net");
-const page = { data, by, d3, svg, many, addEventListener, ...amountsOf(data) };
-const table = bankTable(page);
-layParts(page);
-showChosen({ ...page, table });
-giveFiles(page);
-playJournal(page);
+const data = JSON.parse(by("data").textContent);
+const svg = /** @type {SVGSVGElement} */ (document.querySelector("svg.net"));
+const amounts = new Amounts(data);
+const table = new BankTable(data);
+table.begin();
+layParts();
+showChosen(table, svg, data.flows, amounts);
+giveFiles(data.files);
+playJournal(data, amounts, svg, globalThis.d3);
 by("journal")?.removeAttribute("hidden");
