@@ -22,4 +22,5 @@ pub mod Memory
 -- what follows from it at each moment
 pub mod Standing
 pub mod Events
+-- worked cases
 pub mod Cases
