@@ -1,17 +1,20 @@
 -- What is told of the banks stays so, as a walk begins, looks on, and its last bank is done.
-use Rattle.std.proofs.Common.{◌≡◌, ◌≢◌, ℕ, ◌<◌, List, length, length-set, get_or, set, Option, Some, None, sym, ap, ◌∙◌, subst, ⊎_elim, arith}
+use Rattle.std.proofs.Common.{◌≡◌, ◌≢◌, ℕ, ◌<◌, ◌≤◌, List, length, length-set, get_or, set, sum_by, Option, Some, None, refl, sym, ap, ◌∙◌, subst, ⊎_elim, arith}
 use Rattle.std.proofs.lemmas.Bool.{cases_eq}
 use Rattle.std.specs.Global.{Vec}
 use Rattle.std.proofs.lemmas.List.{get_or-set_same, get_or-set_other, with_items_is}
+use Rattle.std.proofs.lemmas.List.Sums.{sum_by-set}
 use Rattle.std.specs.Vec.{with_item, with_items}
 use Rattle.clr_net.specs.declared.debt.BankId.{BankId}
+use Rattle.clr_net.specs.Limits.{IsNetwork}
 use Rattle.clr_net.specs.Net.{Net}
+use Rattle.clr_net.specs.declared.TheConstants.{MAX_BANKS}
 use Rattle.compress.specs.Compression.{rank_above}
 use Rattle.compress.specs.declared.mark.Mark.{Mark}
 use Rattle.compress.specs.declared.mark.Mark.TheVariants.{New, Walked, Done}
 use Rattle.compress.specs.declared.walk.Walk.{Walk}
 use Rattle.compress.specs.declared.step.Step.{Step}
-use Rattle.compress.specs.Walk.{mark_of, numbers, end_of, AreDone, AreHeads, ArePassed, IsStepFrom, IsWalk, IsKept, IsReady, IsTold, IsUnderWay, IsAtRest}
+use Rattle.compress.specs.Walk.{mark_of, numbers, end_of, steps_left, AreDone, AreHeads, ArePassed, IsStepFrom, IsWalk, IsKept, IsReady, IsTold, IsUnderWay, IsAtRest}
 use Rattle.compress.proofs.Walks.{walk_begins, walked_not_done}
 use Rattle.compress.proofs.Dones.{done_marked, done_more}
 use Rattle.compress.proofs.Cursors.{passed_kept}
@@ -91,6 +94,61 @@ looked_on {net = net} {c = c} {C = C} {w = w} K b o old inside l passed found =
       };
     }
 
+-- the last bank of a walk was not done before
+retired_was : {net : Net} {c : ℕ} {C : List ℕ} {w : Walk} (e : ℕ) → IsUnderWay net c C w
+    → e ≡ end_of net w.start.0 (numbers w.steps.items) → mark_of w.marks.items e ≢ Done
+retired_was {net = net} {c = c} {C = C} {w = w} e old at =
+    subst (λ (b : ℕ). mark_of w.marks.items b ≢ Done) (sym at)
+    (end_not_done net c w.start.0 C (numbers w.steps.items) w.marks.items old.walk)
+
+-- and it is a bank of the network
+pub retired_known : {net : Net} {c : ℕ} {C : List ℕ} {w : Walk} (e : ℕ) → IsUnderWay net c C w
+    → e ≡ end_of net w.start.0 (numbers w.steps.items) → e < length net.banks
+retired_known {w = w} e old at =
+    omega (arith, not_done_in_range w.marks.items e (retired_was e old at), old.told.sizes.marks)
+
+-- no bank has a number above the limit on banks
+pub ranks_low : {net : Net} {c : ℕ} {C : List ℕ} {w : Walk} (R : List ℕ) → IsUnderWay net c C w → IsNetwork net
+    → R ≡ w.ranks.items → (b : ℕ) → get_or R b 0 ≤ MAX_BANKS
+ranks_low R old network same b =
+    omega (arith, ap (λ (R : List ℕ). get_or R b 0) same, old.told.done.low b, network.banks_in_limit)
+
+-- once it is, what every step keeps is kept
+pub retired_kept : {net : Net} {c : ℕ} {C : List ℕ} {w : Walk} (e : ℕ) → IsUnderWay net c C w
+    → e ≡ end_of net w.start.0 (numbers w.steps.items)
+    → IsKept net c C C w.marks.items (set w.marks.items e Done)
+retired_kept {net = net} {c = c} {C = C} {w = w} e old at =
+    kept_done net c C w.marks.items e Done (retired_was e old at)
+
+-- a bank that is not done has a step left
+some_left : (m : Mark) → m ≢ Done → 0 < steps_left m
+some_left New ne = omega arith
+some_left (Walked p) ne = omega arith
+some_left Done ne = absurd (ne refl)
+
+-- and fewer steps are left
+pub retired_less : {net : Net} {c : ℕ} {C : List ℕ} {w : Walk} (e : ℕ) → IsUnderWay net c C w
+    → e ≡ end_of net w.start.0 (numbers w.steps.items)
+    → sum_by steps_left (set w.marks.items e Done) < sum_by steps_left w.marks.items
+retired_less {w = w} e old at =
+    let marks = w.marks.items in
+    let was = retired_was e old at in
+    omega (
+      arith,
+      sum_by-set steps_left marks e Done Done (not_done_in_range marks e was),
+      some_left (mark_of marks e) was,
+    )
+
+-- and where the walk goes on to a new bank
+pub grown_less : (marks : List Mark) (b k : ℕ) → mark_of marks b ≡ New
+    → sum_by steps_left (set marks b (Walked k)) < sum_by steps_left marks
+grown_less marks b k new =
+    omega (
+      arith,
+      sum_by-set steps_left marks b (Walked k) Done (not_done_in_range marks b (λ e. absurd (cc))),
+      ap steps_left new,
+    )
+
 -- the last bank of a walk is done: what is told of the banks is so
 pub retired_told : {net : Net} {c : ℕ} {C : List ℕ} {w : Walk} (ids : Vec Step) (e v : ℕ)
     → IsUnderWay net c C w → e ≡ end_of net w.start.0 (numbers w.steps.items)
@@ -103,8 +161,7 @@ pub retired_told : {net : Net} {c : ℕ} {C : List ℕ} {w : Walk} (ids : Vec St
 retired_told {net = net} {c = c} {C = C} {w = w} ids e v old at ready is =
     let marks = w.marks.items in
     let sizes = old.told.sizes in
-    let not_done = subst (λ (b : ℕ). mark_of marks b ≢ Done) (sym at)
-    (end_not_done net c w.start.0 C (numbers w.steps.items) marks old.walk) in
+    let not_done = retired_was e old at in
     let inside = not_done_in_range marks e not_done in
     record {
       done = done_more e v old.told.done inside (omega (arith, inside, sizes.ranks, sizes.marks))

@@ -38,8 +38,7 @@ pub fn compress(alloc: Global, net: &Network) -> Result<Compressed, Mem>
     let banks = net.banks() as usize;
     let mut claims = Amounts::zeros(alloc, net.debts() as usize)?;
     let mut ranks = Amounts::zeros(alloc, MAX_CLASS as usize * banks)?;
-    let mut walk = Walk::of(alloc, banks)?;
-    let cancelled = compress_into(net, claims.as_mut_slice(), ranks.as_mut_slice(), &mut walk)?;
+    let cancelled = compress_into(alloc, net, claims.as_mut_slice(), ranks.as_mut_slice())?;
     Ok(Compressed {
         claims,
         ranks,
@@ -48,8 +47,24 @@ pub fn compress(alloc: Global, net: &Network) -> Result<Compressed, Mem>
 }
 
 // Writes the claims that are left and the numbers of all banks, and answers how many units were
-// taken off.
+// taken off. Takes the memory that a walk needs.
 fn compress_into(
+    alloc: Global,
+    net: &Network,
+    claims: &mut [u64],
+    ranks: &mut [u64],
+) -> Result<u64, Mem>
+    requires network { IsNetwork net.now }
+    requires claims { length claims.old ≡ length net.now.debts }
+    requires ranks { length ranks.old ≡ LAST_CLASS * length net.now.banks }
+    ensures { IfOk result (λ cancelled. Compression net.now claims.new ranks.new cancelled) }
+{
+    let mut walk = Walk::of(alloc, net.banks() as usize)?;
+    compress_by(net, claims, ranks, &mut walk)
+}
+
+// The same, by a walk that has not begun.
+fn compress_by(
     net: &Network,
     claims: &mut [u64],
     ranks: &mut [u64],

@@ -2,7 +2,7 @@ ghost use Rattle.compress.specs.declared.mark.Mark.TheVariants.{Done};
 ghost use Rattle.std.specs.Prelude.{◌≡◌, ◌↔◌, IsTrue};
 
 /// What is known of a bank while the debts of one class are gone over.
-#[derive(Clone, Copy, Debug, PartialEq, Eq)]
+#[derive(Clone, Copy)]
 pub(crate) enum Mark {
     /// It has its number: no cycle runs through it.
     Done,

@@ -42,11 +42,11 @@ impl Walk {
     {
         Ok(Walk {
             start: BankId(0),
-            steps: Vec::new(alloc),
             marks: vec![in alloc; Mark::New; banks]?,
             cursors: vec![in alloc; 0; banks]?,
             heads: vec![in alloc; None; banks]?,
             ranks: vec![in alloc; 0; banks]?,
+            steps: Vec::new(alloc),
         })
     }
 }

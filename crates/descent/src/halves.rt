@@ -43,9 +43,9 @@ impl Descent {
     {
         Ok(Descent {
             laid: net.copy(alloc)?,
-            steps: Vec::new(alloc),
             marks: vec![in alloc; false; net.banks() as usize]?,
             scratch: Scratch::of(alloc, net)?,
+            steps: Vec::new(alloc),
         })
     }
 

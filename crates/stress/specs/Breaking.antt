@@ -27,6 +27,10 @@ breaking_within low high net i =
     let cut = max low (min high (breaking_cut net i)) in
     record { cut = cut; health = if nat_lt cut high then health_after net i cut else Sound }
 
+-- what is told of a bank that no cut below `high` breaks
+abbrev pub unbroken : ℕ → Broken
+unbroken high = record { cut = high; health = Sound }
+
 -- what the cuts below `middle` tell of the banks, and what those from it on tell, put together: the
 -- latter of a bank that no cut below breaks
 abbrev pub joined : ℕ → List Broken → List Broken → List Broken

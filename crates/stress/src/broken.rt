@@ -1,10 +1,11 @@
 //! The least cut of all cash that breaks each bank.
 ghost use Rattle.cascade.specs.Standings.{bank_numbers, health_of};
-ghost use Rattle.clear_core.specs.Clearing.{Clears};
+ghost use Rattle.clear_core.specs.Buffers.{HasRoom};
+ghost use Rattle.clear_core.specs.Clearing.{Clears, zeros};
 ghost use Rattle.clear_core.specs.Sums.{HaveSums};
 ghost use Rattle.std.specs.Prelude.{◌≡◌, ◌+◌, ◌<◌, ◌≤◌, ◌==◌, ℕ, IfOk, length, if◌then◌else◌, map};
-ghost use Rattle.std.specs.Prelude.{slice_index_or};
-ghost use Rattle.stress.specs.Breaking.{breaking_within as within};
+ghost use Rattle.std.specs.Prelude.{replicate, slice_index_or};
+ghost use Rattle.stress.specs.Breaking.{breaking_within as within, unbroken};
 ghost use Rattle.stress.specs.Breaking.{joined as joined_of, noted as noted_of};
 ghost use Rattle.stress.specs.declared.TheConstants.{MAX_CUT};
 
@@ -13,7 +14,7 @@ use crate::shock::cut_cash;
 use cascade::{Health, due, worth};
 use clear_core::{Payments, Scratch};
 use clear_least::least_again;
-use clr_net::{BankId, Mem, Network};
+use clr_net::{BankId, MAX_BANKS, Mem, Network};
 use std::alloc::Global;
 
 /// The least cut that breaks a bank, per mille, and how the bank stands at it.
@@ -51,20 +52,70 @@ pub fn breaking_within(
         cut: high,
         health: Health::Sound,
     };
-    let banks = net.banks() as usize;
-    let mut all = vec![in alloc; none; banks]?;
-    let mut marks = vec![in alloc; true; banks]?;
-    let mut payments = Payments::none(alloc, net)?;
-    let mut scratch = Scratch::of(alloc, net)?;
-    let mut left = net.copy(alloc)?;
+    let mut all = vec![in alloc; none; net.banks() as usize]?;
+    let mut room = Room::of(alloc, net)?;
+    go_down(net, low, high, &mut room, all.as_mut_slice());
+    Ok(all)
+}
+
+// What it takes to go down from cut to cut, beside what is known of each bank.
+#[derive(Drop)]
+struct Room {
+    marks: Vec<bool>,
+    // The least payments after the last cut, and none before any.
+    payments: Payments,
+    scratch: Scratch,
+    // What the last cut left.
+    left: Network,
+}
+
+impl Room {
+    // What the first cut finds.
+    fn of(alloc: Global, net: &Network) -> Result<Room, Mem>
+        ensures marks { IfOk result (λ room. length room.marks.items ≡ length net.now.banks) }
+        ensures paid { IfOk result (λ room. room.payments.paid ≡ zeros net.now) }
+        ensures sums { IfOk result (λ room. HaveSums net.now room.payments) }
+        ensures scratch { IfOk result (λ room. HasRoom net.now room.scratch) }
+        ensures left { IfOk result (λ room. room.left ≡ net.now) }
+    {
+        let marks = vec![in alloc; true; net.banks() as usize]?;
+        let payments = Payments::none(alloc, net)?;
+        let scratch = Scratch::of(alloc, net)?;
+        Ok(Room {
+            marks,
+            payments,
+            scratch,
+            left: net.copy(alloc)?,
+        })
+    }
+}
+
+// Goes down through the cuts, from the greatest below `high` to `low`, where none is known to break
+// a bank, and tells of each bank what they do.
+fn go_down(net: &Network, low: u32, high: u32, room: &mut Room, all: &mut [Broken])
+    requires range { low ≤ high }
+    requires high { high ≤ MAX_CUT + 1 }
+    requires unbroken { all.old ≡ replicate (length net.now.banks) (unbroken high) }
+    requires marks { length room.old.marks.items ≡ length net.now.banks }
+    requires paid { room.old.payments.paid ≡ zeros net.now }
+    requires sums { HaveSums net.now room.old.payments }
+    requires scratch { HasRoom net.now room.old.scratch }
+    requires left { room.old.left ≡ net.now }
+    ensures { all.new ≡ map (within low high net.now) (bank_numbers net.now) }
+{
     for step in 0..high - low {
         let cut = high - step - 1;
-        cut_cash(net, cut, &mut left);
-        mark_broken(all.as_slice(), cut + 1, marks.as_mut_slice());
-        least_again(&left, &mut payments, marks.as_mut_slice(), &mut scratch);
-        note(&left, &payments, cut, all.as_mut_slice());
+        cut_cash(net, cut, &mut room.left);
+        prove!(room.left.banks() <= MAX_BANKS);
+        mark_broken(all, cut + 1, room.marks.as_mut_slice());
+        least_again(
+            &room.left,
+            &mut room.payments,
+            room.marks.as_mut_slice(),
+            &mut room.scratch,
+        );
+        note(&room.left, &room.payments, cut, all);
     }
-    Ok(all)
 }
 
 /// What [`breaking_within`] tells by the cuts of two shares, put together: by those below `middle`,

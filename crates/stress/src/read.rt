@@ -87,7 +87,7 @@ fn read_all(alloc: Global, net: &Network, values: &[Value]) -> Result<Vec<Scenar
 }
 
 // Why a value gives no scenario.
-#[derive(Clone, Copy, Debug, PartialEq, Eq)]
+#[derive(Clone, Copy)]
 enum Stop {
     Fault(FaultKind),
     Mem,

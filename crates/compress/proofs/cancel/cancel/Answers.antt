@@ -1,12 +1,43 @@
-use Rattle.std.proofs.Common.{◌≤◌, List, length, get_or, refl, ap, subst, arith}
+use Rattle.std.proofs.Common.{ℕ, ◌<◌, ◌≤◌, List, length, get_or, refl, sym, ap, subst, arith}
 use Rattle.std.proofs.lemmas.List.{length-map}
 use Rattle.std.proofs.lemmas.List.Elements.{All-take}
 use Rattle.compress.specs.declared.step.Step.{Step}
+use Rattle.compress.specs.Compression.{IsLive}
 use Rattle.compress.specs.Walk.{IsStep, numbers}
+use Rattle.compress.proofs.Cycles.{live_claim}
 use Rattle.compress.proofs.Cancelling.{cancelling_begins, cancelling_ends, last_is_step, step_last, step_more, IsLast}
 use Rattle.compress.proofs.Telling.{cancelled_told}
-use Rattle.compress.proofs.cancel.cancel.Goals.{After-truncate}
+use Rattle.compress.proofs.cancel.cancel.Goals.{After-as_slice, After-truncate}
 use Rattle.compress.proofs.cancel.cancel.Goals as goal
+
+-- the debts of the walk, as they are laid out, are those of the walk
+laid : (c : After-as_slice) → (k : ℕ) → k < length c.as_slice.result.now
+    → IsLive c.args.net.now c.args.claims.now c.args.class (get_or (numbers c.as_slice.result.now) k 0)
+laid c k l =
+    let w = c.args.walk.now in
+    let same = c.as_slice.ensures.value in
+    subst (λ (ids : List Step). IsLive c.args.net.now c.args.claims.now c.args.class (get_or (numbers ids) k 0))
+    (sym same) (c.requires.under_way.walk.live k
+    (omega (arith, l, length-map w.steps.items (λ s. s.debt.0), ap length same)))
+
+pub least_claim-least-requires-clause-closing : goal.least_claim-least-requires-clause-closing
+least_claim-least-requires-clause-closing c = omega (arith, c.requires.closing.debt, c.requires.claims)
+
+pub least_claim-least-requires-clause-debts : goal.least_claim-least-requires-clause-debts
+least_claim-least-requires-clause-debts c k l =
+    let live = laid c k l in omega (arith, live.debt, c.requires.claims)
+
+pub least_claim-least-requires-clause-live : goal.least_claim-least-requires-clause-live
+least_claim-least-requires-clause-live c k l = live_claim (laid c k l)
+
+pub bounds-claims-closing : goal.bounds-claims-closing
+bounds-claims-closing c = omega (arith, c.requires.closing.debt, c.requires.claims)
+
+pub overflow_sub-claims : goal.overflow_sub-claims
+overflow_sub-claims c = c.least_claim-least.ensures.closing
+
+pub bounds-claims-closing-2 : goal.bounds-claims-closing-2
+bounds-claims-closing-2 c = omega (arith, c.requires.closing.debt, c.requires.claims)
 
 pub loop-walk-init : goal.loop-walk-init
 loop-walk-init c =
@@ -85,6 +116,12 @@ loop-walk-preserved c = record {
   heads = c.loop-walk.invariant.heads;
   ranks = c.loop-walk.invariant.ranks;
 }
+
+pub returns-clause-start : goal.returns-clause-start
+returns-clause-start c = c.loop-walk.invariant.start
+
+pub returns-clause-less : goal.returns-clause-less
+returns-clause-less c = c.loop-walk.invariant.cancelling.less
 
 pub returns-clause-kept : goal.returns-clause-kept
 returns-clause-kept c =

@@ -16,6 +16,20 @@ is_live-requires-clause-debt c =
     (stands_in_column c.args.net.now _ _ c.loop-id.id-index (record { 0 = 0 })
     c.column-id-items.ensures c.loop-id-test.true).in_range
 
+pub bounds-ranks-debtor : goal.bounds-ranks-debtor
+bounds-ranks-debtor c =
+    let stands = stands_in_column c.args.net.now _ _ c.loop-id.id-index (record { 0 = 0 })
+    c.column-id-items.ensures c.loop-id-test.true in
+    omega (
+      arith,
+      (c.banks.ensures.network.each_debt _ stands.in_range).debtor_known,
+      c.debtor_of-debtor.ensures.debtor,
+      c.requires.ranks,
+    )
+
+pub overflow_add-ranks : goal.overflow_add-ranks
+overflow_add-ranks c = omega (arith, c.requires.low c.debtor_of-debtor.result.0)
+
 pub loop-id-preserved : goal.loop-id-preserved
 loop-id-preserved c =
     let net = c.args.net.now in

@@ -1,4 +1,4 @@
-use Rattle.std.proofs.Common.{◌≡◌, ◌+◌, [], ◌∷◌, ◌++◌, length, length-set, sym, ap, ◌∙◌, arith}
+use Rattle.std.proofs.Common.{◌≡◌, ◌+◌, [], ◌∷◌, ◌++◌, length, length-set, refl, sym, ap, ◌∙◌, arith}
 use Rattle.std.proofs.lemmas.List.{length-map, length_push, map-append}
 use Rattle.std.proofs.lemmas.List.Elements.{All-push}
 use Rattle.clr_net.specs.Net.{debtor_of}
@@ -9,8 +9,28 @@ use Rattle.compress.specs.Walk.{IsStep, numbers}
 use Rattle.compress.proofs.Cursors.{passed_kept}
 use Rattle.compress.proofs.Dones.{done_marked}
 use Rattle.compress.proofs.Steps.{kept_done, not_done_in_range}
+use Rattle.compress.proofs.Telling.{grown_less}
 use Rattle.compress.proofs.Walks.{walk_grows, walked_not_done}
 use Rattle.compress.proofs.walk.grow.Goals as goal
+
+pub index_mut-requires : goal.index_mut-requires
+index_mut-requires c =
+    let inside = not_done_in_range c.args.walk.now.marks.items (debtor_of c.args.net.now c.args.step.debt.0)
+    c.requires.next.unfinished in
+    omega (arith, c.requires.step, inside)
+
+pub returns-clause-start : goal.returns-clause-start
+returns-clause-start c = refl
+
+pub returns-clause-kept : goal.returns-clause-kept
+returns-clause-kept c =
+    rw c.requires.step (kept_done c.args.net.now c.args.class c.args.claims.now c.args.walk.now.marks.items
+    (debtor_of c.args.net.now c.args.step.debt.0) (Walked c.len.result) c.requires.next.unfinished)
+
+pub returns-clause-less : goal.returns-clause-less
+returns-clause-less c =
+    rw c.requires.step (grown_less c.args.walk.now.marks.items
+    (debtor_of c.args.net.now c.args.step.debt.0) c.len.result c.requires.new)
 
 pub returns-clause-under_way : goal.returns-clause-under_way
 returns-clause-under_way c =

@@ -2,6 +2,7 @@ use Rattle.std.proofs.Common.{◌≡◌, List, None, IfSome, MatchOption, length
 use Rattle.std.proofs.lemmas.List.{get_or_read}
 use Rattle.compress.specs.declared.mark.Mark.{Mark}
 use Rattle.compress.specs.declared.step.Step.{Step}
+use Rattle.compress.specs.declared.walk.Walk.{Walk}
 use Rattle.compress.specs.Walk.{ArePassed, IsReady, IsStep, IsStepFrom, IsUnderWay, LeadsOn, mark_of}
 use Rattle.compress.proofs.Cycles.{live_class, live_with}
 use Rattle.compress.proofs.Steps.{end_in_range}
@@ -50,6 +51,93 @@ returns-then-is_open-clause-next c =
 pub returns-then-is_open-clause-step : goal.returns-then-is_open-clause-step
 returns-then-is_open-clause-step c =
     (head (goal.at.returns-then-is_open-clause-step c).After-as_slice).debtor
+
+pub index-requires : goal.index-requires
+index-requires c =
+    let told = c.requires.under_way.told in
+    omega (
+      arith,
+      c.requires.end,
+      end_in_range _ _ _ _ _ _ c.requires.under_way.walk,
+      told.sizes.heads,
+      told.sizes.marks,
+    )
+
+pub next_back-found-requires-clause-bank : goal.next_back-found-requires-clause-bank
+next_back-found-requires-clause-bank c =
+    omega (
+      arith,
+      c.requires.end,
+      end_in_range _ _ _ _ _ _ c.requires.under_way.walk,
+      c.requires.under_way.told.sizes.marks,
+    )
+
+pub next_back-found-requires-clause-claims : goal.next_back-found-requires-clause-claims
+next_back-found-requires-clause-claims c = c.requires.claims
+
+pub next_back-found-requires-clause-marks : goal.next_back-found-requires-clause-marks
+next_back-found-requires-clause-marks c =
+    let same : c.match-index.walk ≡ c.args.walk.now = elim c.match-index.branch [
+      | in-Some+else-is_open w ↦ w.walk-is
+      | in_default w ↦ w.walk-is
+    ] in
+    ap length c.as_slice-marks.ensures.value ∙ ap (λ (w : Walk). length w.marks.items) same
+    ∙ c.requires.under_way.told.sizes.marks
+
+pub next_back-found-requires-clause-cursors : goal.next_back-found-requires-clause-cursors
+next_back-found-requires-clause-cursors c =
+    let same : c.match-index.walk ≡ c.args.walk.now = elim c.match-index.branch [
+      | in-Some+else-is_open w ↦ w.walk-is
+      | in_default w ↦ w.walk-is
+    ] in
+    ap length c.as_mut_slice.ensures.value ∙ ap (λ (w : Walk). length w.cursors.items) same
+    ∙ c.requires.under_way.told.sizes.cursors
+
+pub next_back-found-requires-clause-passed : goal.next_back-found-requires-clause-passed
+next_back-found-requires-clause-passed c =
+    let same : c.match-index.walk ≡ c.args.walk.now = elim c.match-index.branch [
+      | in-Some+else-is_open w ↦ w.walk-is
+      | in_default w ↦ w.walk-is
+    ] in
+    rw (c.as_slice-marks.ensures.value, c.as_mut_slice.ensures.value, same) c.requires.under_way.told.passed
+
+pub returns-clause-start : goal.returns-clause-start
+returns-clause-start c =
+    let same : c.match-index.walk ≡ c.args.walk.now = elim c.match-index.branch [
+      | in-Some+else-is_open w ↦ w.walk-is
+      | in_default w ↦ w.walk-is
+    ] in
+    ap (λ (w : Walk). w.start) same
+
+pub returns-clause-steps : goal.returns-clause-steps
+returns-clause-steps c =
+    let same : c.match-index.walk ≡ c.args.walk.now = elim c.match-index.branch [
+      | in-Some+else-is_open w ↦ w.walk-is
+      | in_default w ↦ w.walk-is
+    ] in
+    ap (λ (w : Walk). w.steps) same
+
+pub returns-clause-marks : goal.returns-clause-marks
+returns-clause-marks c =
+    let same : c.match-index.walk ≡ c.args.walk.now = elim c.match-index.branch [
+      | in-Some+else-is_open w ↦ w.walk-is
+      | in_default w ↦ w.walk-is
+    ] in
+    ap (λ (w : Walk). w.marks) same
+
+pub returns-clause-next : goal.returns-clause-next
+returns-clause-next c =
+    let same : c.match-index.walk ≡ c.args.walk.now = elim c.match-index.branch [
+      | in-Some+else-is_open w ↦ w.walk-is
+      | in_default w ↦ w.walk-is
+    ] in
+    subst (λ (m : List Mark). MatchOption c.next_back-found.result
+    (IsReady c.args.net.now c.args.class c.args.end.0 c.args.claims.now m)
+    (λ (t : Step). LeadsOn c.args.net.now c.args.class c.args.end.0 c.args.claims.now m t.debt.0))
+    (c.as_slice-marks.ensures.value ∙ ap (λ (w : Walk). w.marks.items) same) c.next_back-found.ensures.next
+
+pub returns-clause-step : goal.returns-clause-step
+returns-clause-step c = c.next_back-found.ensures.step
 
 pub returns-clause-under_way : goal.returns-clause-under_way
 returns-clause-under_way c =
