@@ -1,7 +1,8 @@
 -- What is known once checks have passed.
-use Rattle.std.proofs.Common.{◌≡◌, ◌≢◌, ℕ, zero, suc, ◌+◌, ◌-◌, ◌<◌, ◌≤◌, ◌&&◌, nat_le, Bool, true, false, List, [], ◌∷◌, length, slice_get, Option, Some, None, Result, Ok, Err, sym, refl, ◌∙◌, subst, arith}
+use Rattle.std.proofs.Common.{◌≡◌, ◌≢◌, ℕ, zero, suc, ◌+◌, ◌-◌, ◌<◌, ◌≤◌, ◌&&◌, nat_le, Bool, true, false, List, [], ◌∷◌, length, slice_get, Option, Some, None, Result, Ok, Err, sym, refl, ap, ◌∙◌, ◌↔◌, subst, arith}
 use Rattle.std.specs.List.{list_any, position}
 use Rattle.std.specs.Option.{ok_or, option_map_or}
+use Rattle.std.specs.Result.{IsErrOf}
 use Rattle.std.proofs.lemmas.Bool.{and_parts, or_parts, leb-true, true≢false}
 use Rattle.std.proofs.lemmas.Option.{cond_some}
 use Rattle.std.proofs.lemmas.Slice.Eq.{bytes_eq-Decides}
@@ -12,10 +13,13 @@ use Rattle.clr_net.proofs.BankNames.{named_there}
 use Rattle.clr_net.specs.declared.bank.Bank.{Bank}
 use Rattle.net_check.specs.Checks.{and_then, fault_unless}
 use Rattle.net_check.specs.Field.{number_in, class_in}
-use Rattle.net_check.specs.Record.{number_up_to, outside_in, bank_in, in_row}
+use Rattle.net_check.specs.Record.{number_up_to, outside_in, bank_in, fault_at, in_row}
+use Rattle.net_check.specs.declared.fault.Fault.{Fault}
 use Rattle.net_check.specs.declared.fault.FileKind.{FileKind}
 use Rattle.net_check.specs.declared.fault.FaultKind.{FaultKind}
 use Rattle.net_check.specs.declared.fault.FaultKind.TheVariants as fault
+use Rattle.net_check.specs.declared.fault.ReadNet.{ReadNet}
+use Rattle.net_check.specs.declared.fault.ReadNet.TheVariants as read_net
 
 -- a test that did not end in its fault held, and what follows it gave the answer
 pub fault_unless-ok : {A E : Type 0} (test : Bool) (e : E) (rest : Result A E) (a : A) → fault_unless test e rest ≡ Ok a
@@ -57,6 +61,23 @@ bank_in-ok net field i h =
 pub in_row-ok : {A : Type 0} (f : FileKind) (row : ℕ) (r : Result A FaultKind) (a : A) → in_row f row r ≡ Ok a → r ≡ Ok a
 in_row-ok f row (Ok x) a h = cc
 in_row-ok f row (Err k) a h = cc
+
+-- an answer that tells no fault is right where a row gives something
+pub no_fault_told : {A B : Type 0} (f : FileKind) (row : ℕ) (r : Result A FaultKind) (a : A) (told : Result B ReadNet)
+    → r ≡ Ok a → ((x : Fault) → told ≡ Err (read_net.Refused x) → x ≢ x)
+    → (x : Fault) → IsErrOf told (read_net.Refused x) ↔ (in_row f row r ≡ Err x)
+no_fault_told f row r a told e none x = (
+  (λ t. absurd (none x t refl)),
+  λ t. let is : in_row f row r ≡ Ok a = ap (in_row f row) e in absurd (cc),
+)
+
+-- and one that tells a fault where a row has it
+pub fault_told : {A B : Type 0} (f : FileKind) (row : ℕ) (r : Result A FaultKind) (k : FaultKind) → r ≡ Err k
+    → (x : Fault) → IsErrOf {T = B} (Err (read_net.Refused (fault_at f row k))) (read_net.Refused x) ↔ (in_row f row r ≡ Err x)
+fault_told f row r k e x = (
+  (λ t. let is : in_row f row r ≡ Err (fault_at f row k) = ap (in_row f row) e in cc),
+  λ t. let is : in_row f row r ≡ Err (fault_at f row k) = ap (in_row f row) e in cc,
+)
 
 -- a class is in its limits
 pub class_in-some : (field : List ℕ) (c : ℕ) → class_in field ≡ Some c → (1 ≤ c) × (c ≤ MAX_CLASS)
