@@ -84,10 +84,10 @@ class Matrix {
     this.lay();
     const wide = Math.round(this.wide);
     const tall = Math.round(TOP + this.cell * this.rows.blocks.length + BELOW);
-    const size = { width: wide, height: tall, viewBox: `0 0 ${wide} ${tall}` };
+    const words = { role: "group", "aria-label": "The network as a matrix" };
     this.place.replaceChildren(this.way(), draw(
       "svg",
-      { class: "net matrix", ...size, role: "group", "aria-label": "The network as a matrix" },
+      { class: "net matrix", width: wide, height: tall, ...words, viewBox: `0 0 ${wide} ${tall}` },
       draw("text", { class: "axis", x: 0, y: TOP - AXIS[0] }, "debtors in rows,"),
       draw("text", { class: "axis", x: 0, y: TOP - AXIS[1] }, "creditors in columns"),
       draw("g", { transform: `translate(${LEFT} ${TOP})` },
