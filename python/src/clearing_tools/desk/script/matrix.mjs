@@ -56,13 +56,13 @@ class Matrix {
   /** Opens a block, or the account of a bank that stands alone. */
   open(step) {
     this.desk.zoom.push(step);
-    this.show();
+    this.desk.drawPicture();
   }
 
   /** Goes back to a step of the way in. */
   back(at) {
     this.desk.zoom.length = at + 1;
-    this.show();
+    this.desk.drawPicture();
   }
 
   /** Takes the rows and columns of the step at hand, with the sums of their cells. */
