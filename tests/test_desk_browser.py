@@ -986,6 +986,8 @@ class Doing(InTheBrowser):
         )
         debts = [line.split(",") for line in (self.folder / "debts.csv").read_text().splitlines()[1:]]
         self.assertEqual(claims(), sum(int(debt[3]) for debt in debts))
+        ordered = "Banks stand by what they owe, the most first."
+        self.assertIn(ordered, self.text("picture-unit"))
         first = self.js(
             """const cells = [...document.querySelectorAll('#picture .cell')];
             const c = cells.sort((a, b) => parseInt(b.textContent) - parseInt(a.textContent))[0];
@@ -997,6 +999,8 @@ class Doing(InTheBrowser):
             self.js("return [...document.querySelectorAll('.way > *')].map(e => e.textContent)"),
             ["All banks", "15 by 15 banks"],
         )
+        # What the picture is in is said of what is seen: here single banks.
+        self.assertNotIn(ordered, self.text("picture-unit"))
         name = self.js(
             "const s = document.querySelector('#picture .side[data-bank]'); s.dispatchEvent(new MouseEvent('click',"
             " {bubbles: true, cancelable: true})); return s.querySelector('text').textContent"
@@ -1004,6 +1008,7 @@ class Doing(InTheBrowser):
         self.until(lambda: self.js("return document.getElementById('bank-name')?.innerText ?? ''").endswith(name))
         self.js("document.querySelector('.way button').click()")
         self.assertEqual(claims(), sum(int(debt[3]) for debt in debts))
+        self.assertIn(ordered, self.text("picture-unit"))
         self.assertTrue(self.js("return document.querySelectorAll('#picture .side.holds').length"))
 
     def test_the_blocks_of_very_many_banks_have_whole_names(self):

@@ -3,13 +3,19 @@ import { by, draw, make } from "./elements.mjs";
 import { mark } from "./marks.mjs";
 
 const STATES = [
-  ["fundamental", "own fundamentals"],
-  ["contagion", "label contagion"],
-  ["gridlock", "gridlock"],
-  ["sound", "sound"],
+  { state: "fundamental", words: "own fundamentals" },
+  { state: "contagion", words: "label contagion" },
+  { state: "gridlock", words: "gridlock" },
+  { state: "sound", words: "sound" },
 ];
 
-const entry = ([sample, words]) => make("span", {}, sample, words);
+/**
+ * What stands in the legend: a sample, where there is one, and its words.
+ * @typedef {{sample?: SVGElement, words: string}} Entry
+ */
+
+/** @param {Entry} entry */
+const entryElement = ({ sample, words }) => make("span", {}, sample, words);
 
 /** A sample of a debt on the circle. */
 const line = (kind) => draw(
@@ -26,24 +32,34 @@ const square = (kind) => draw(
   draw("rect", { class: `squares ${kind}`, x: 1, y: 1, width: 12, height: 12 }),
 );
 
-/** What the debts and marks of the circle mean. */
-const entriesOfCircle = ({ isSame, matter, view }) => {
-  const against = [
-    [line("more"), "unpaid more; width: the amount"],
-    ...(matter.hasLess ? [[line("less"), "unpaid less"]] : []),
-    [line("kept"), "unpaid as before"],
-  ];
-  const debts = isSame ? [[line("more"), "unpaid; width: the amount"]] : against;
-  const states = STATES.filter(([state]) => view.state.includes(state));
-  return [...debts, [line("paid"), "paid"], ...states.map(([state, words]) => [mark(state), words])];
-};
+/** What the debts of the circle mean, where two states are held against one another. */
+const debtsAgainst = (hasLess) => [
+  { sample: line("more"), words: "unpaid more; width: the amount" },
+  ...(hasLess ? [{ sample: line("less"), words: "unpaid less" }] : []),
+  { sample: line("kept"), words: "unpaid as before" },
+];
 
-/** What the squares of the matrix mean. */
+/**
+ * What the debts and marks of the circle mean.
+ * @returns {Entry[]}
+ */
+const entriesOfCircle = ({ isSame, matter, view }) => [
+  ...(isSame ? [{ sample: line("more"), words: "unpaid; width: the amount" }] : debtsAgainst(matter.hasLess)),
+  { sample: line("paid"), words: "paid" },
+  ...STATES
+    .filter(({ state }) => view.state.includes(state))
+    .map(({ state, words }) => ({ sample: mark(state), words })),
+];
+
+/**
+ * What the squares of the matrix mean.
+ * @returns {Entry[]}
+ */
 const entriesOfMatrix = ({ isSame, matter }) => [
-  [square("more"), isSame ? "unpaid" : "unpaid more"],
-  ...(matter.hasLess ? [[square("less"), "unpaid less"]] : []),
-  [square("claim"), "owed"],
-  [null, "areas: the amounts, each kind by its largest"],
+  { sample: square("more"), words: isSame ? "unpaid" : "unpaid more" },
+  ...(matter.hasLess ? [{ sample: square("less"), words: "unpaid less" }] : []),
+  { sample: square("claim"), words: "owed" },
+  { words: "areas: the amounts, each kind by its largest" },
 ];
 
 /**
@@ -52,5 +68,5 @@ const entriesOfMatrix = ({ isSame, matter }) => [
  */
 export const showKey = (context) => {
   const entries = context.picture.form === "matrix" ? entriesOfMatrix(context) : entriesOfCircle(context);
-  by("key").replaceChildren(...entries.map(entry));
+  by("key").replaceChildren(...entries.map(entryElement));
 };

@@ -56,13 +56,13 @@ class Matrix {
   /** Opens a block, or the account of a bank that stands alone. */
   open(step) {
     this.desk.zoom.push(step);
-    this.show();
+    this.desk.drawPicture();
   }
 
   /** Goes back to a step of the way in. */
   back(at) {
     this.desk.zoom.length = at + 1;
-    this.show();
+    this.desk.drawPicture();
   }
 
   /** Takes the rows and columns of the step at hand, with the sums of their cells. */
@@ -84,10 +84,10 @@ class Matrix {
     this.lay();
     const wide = Math.round(this.wide);
     const tall = Math.round(TOP + this.cell * this.rows.blocks.length + BELOW);
-    const size = { width: wide, height: tall, viewBox: `0 0 ${wide} ${tall}` };
+    const words = { role: "group", "aria-label": "The network as a matrix" };
     this.place.replaceChildren(this.way(), draw(
       "svg",
-      { class: "net matrix", ...size, role: "group", "aria-label": "The network as a matrix" },
+      { class: "net matrix", width: wide, height: tall, ...words, viewBox: `0 0 ${wide} ${tall}` },
       draw("text", { class: "axis", x: 0, y: TOP - AXIS[0] }, "debtors in rows,"),
       draw("text", { class: "axis", x: 0, y: TOP - AXIS[1] }, "creditors in columns"),
       draw("g", { transform: `translate(${LEFT} ${TOP})` },
