@@ -18,9 +18,9 @@ BENCH = pathlib.Path(__file__).resolve().parent
 sys.dont_write_bytecode = True
 sys.path[:0] = [str(BENCH), str(BENCH.parent / "python/src")]
 import clearing_client as cc  # noqa: E402
-import inputs  # noqa: E402
 import timing  # noqa: E402
 from clearing_client.program import find_program  # noqa: E402
+from networks import RULES  # noqa: E402
 
 
 def frames() -> Tuple[Any, Any]:
@@ -30,7 +30,7 @@ def frames() -> Tuple[Any, Any]:
     banks = {
         "name": [f"bank {n}" for n in range(1000)],
         "cash": [n * 7919 % 2000 for n in range(1000)],
-        "rule": [inputs.RULES[n % 6] for n in range(1000)],
+        "rule": [RULES[n % 6] for n in range(1000)],
     }
     pairs = [(n, (n + step) % 1000) for n in range(1000) for step in range(1, 21)]
     debts = {

@@ -47,6 +47,7 @@ import frame  # noqa: E402
 import inputs  # noqa: E402
 import timing  # noqa: E402
 from jobs import ONE, Program, jobs_of_tasks  # noqa: E402
+from networks import RULES  # noqa: E402
 from peer_tables import peer  # noqa: E402
 from table import Form, Options, Table  # noqa: E402
 from timing import Fault, Times  # noqa: E402
@@ -90,17 +91,17 @@ def row_of_tasks(program: Program, table: Table, columns: List[str], name: str) 
 
 def rules(program: Program, options: Options) -> None:
     """Each rule beside `order`, on networks in which all banks have one."""
-    table = Table(options, Form("by each rule", inputs.RULES[0], inputs.RULES[1:]))
+    table = Table(options, Form("by each rule", RULES[0], RULES[1:]))
     for family in options.inputs or ["largest", "star"]:
         for task in ("clear", "central"):
-            jobs = {rule: program.words(task, f"{family}-{rule}") for rule in inputs.RULES}
+            jobs = {rule: program.words(task, f"{family}-{rule}") for rule in RULES}
             table.row(f"{family}, {task}", jobs)
 
 
 def workers(program: Program, options: Options) -> None:
     """`clear` by one worker and by more, beside `central`."""
     table = Table(options, Form("clear, by workers", "central", ["1", "2", "4"]))
-    for name in options.inputs or [*(f"largest-{rule}" for rule in inputs.RULES), "ring-10-forward"]:
+    for name in options.inputs or [*(f"largest-{rule}" for rule in RULES), "ring-10-forward"]:
         jobs = {"central": program.words("central", name)}
         jobs.update({count: program.words("clear", name, "--workers", count) for count in ("1", "2", "4")})
         table.row(name, jobs)

@@ -32,6 +32,8 @@ sys.dont_write_bytecode = True
 sys.path[:0] = [str(BENCH)]
 import frame  # noqa: E402
 import inputs  # noqa: E402
+import usual_networks  # noqa: E402
+from networks import BANKS_HEADER, DEBTS_HEADER, Bank, Debt  # noqa: E402
 
 RAISES = 2_000_000
 # What stands in the program's place, and notes for each answer the seconds by the clock and of a processor.
@@ -73,7 +75,7 @@ def program() -> str:
 
 def largest(folder: pathlib.Path) -> List[str]:
     """The largest network with a hundred scenarios, as words of the tool."""
-    banks, debts = inputs.largest("webster")
+    banks, debts = usual_networks.largest("webster")
     write(folder, banks, debts)
     losses = '[[scenario]]\nname = "shock {0}"\ncut = {1}\n[[scenario.loss]]\nbank = "bank {2}"\namount = {3}\n'
     text = "".join(losses.format(at, 9 * at, 7 * at, 11 * at) for at in range(100))
@@ -83,15 +85,15 @@ def largest(folder: pathlib.Path) -> List[str]:
 
 def ring(folder: pathlib.Path) -> List[str]:
     """A ring of ten banks round which one unit goes until all is paid."""
-    banks: List[inputs.Bank] = [(f"K{at}", int(at == 0), "order") for at in range(10)]
+    banks: List[Bank] = [(f"K{at}", int(at == 0), "order") for at in range(10)]
     write(folder, banks, [(f"K{at}", f"K{(at + 1) % 10}", 1, RAISES // 10) for at in range(10)])
     return ["--banks", "banks.csv", "--debts", "debts.csv"]
 
 
-def write(folder: pathlib.Path, banks: List[inputs.Bank], debts: List[inputs.Debt]) -> None:
+def write(folder: pathlib.Path, banks: List[Bank], debts: List[Debt]) -> None:
     """Writes the two files of a network whose banks owe nothing outside."""
-    (folder / "banks.csv").write_text(inputs.text_of(inputs.BANKS_HEADER, banks))
-    (folder / "debts.csv").write_text(inputs.text_of(inputs.DEBTS_HEADER, debts))
+    (folder / "banks.csv").write_text(inputs.text_of(BANKS_HEADER, banks))
+    (folder / "debts.csv").write_text(inputs.text_of(DEBTS_HEADER, debts))
 
 
 def made(python: str, words: List[str], folder: pathlib.Path) -> Dict[str, float]:

@@ -27,6 +27,8 @@ import frame  # noqa: E402
 import inputs  # noqa: E402
 import timing  # noqa: E402
 from jobs import WIDELY, Program  # noqa: E402
+from networks import Network  # noqa: E402
+from wide_networks import spread  # noqa: E402
 
 # Banks, and how many others each of them owes.
 SIZES = ((5, 2), (20, 5), (100, 10), (400, 25), (2_000, 50), (10_000, 100))
@@ -69,10 +71,10 @@ Column = Tuple[List[float], List[float], List[float]]
 """Of a task the debts, the milliseconds and the memory, a place a network."""
 
 
-def network(count: int, owed: int) -> inputs.Network:
+def network(count: int, owed: int) -> Network:
     """So many banks, each of which owes so many others and has up to half of that in cash."""
     half = max(1, owed * 25 // 2)
-    return inputs.spread(count, owed, lambda bank: bank * 7919 % half, "order")
+    return spread(count, owed, lambda bank: bank * 7919 % half, "order")
 
 
 def cells_of(program: Program, size: Size, options: Options) -> Dict[str, Cell]:

@@ -23,9 +23,12 @@ sys.dont_write_bytecode = True
 sys.path[:0] = [str(BENCH)]
 import inputs  # noqa: E402
 import timing  # noqa: E402
+from networks import BANKS_HEADER, DEBTS_HEADER, RULES, Bank, Network  # noqa: E402
+from ring_networks import ring  # noqa: E402
+from usual_networks import largest  # noqa: E402
 
 RUNS = 3
-BANKS, DEBTS = inputs.BANKS_HEADER.encode(), inputs.DEBTS_HEADER.encode()
+BANKS, DEBTS = BANKS_HEADER.encode(), DEBTS_HEADER.encode()
 READ = """import csv, sys
 from decimal import Decimal
 print(sum(Decimal(cell) for row in list(csv.reader(open(sys.argv[1])))[1:] for cell in row[1:]))
@@ -120,7 +123,7 @@ def lint_keys(folder: pathlib.Path) -> Spent:
 # What an audit takes.
 
 
-def audit(folder: pathlib.Path, network: inputs.Network, *how: str) -> Spent:
+def audit(folder: pathlib.Path, network: Network, *how: str) -> Spent:
     """The audit of the journal of a run of the program on a network, by one worker and further words."""
     inputs.write(str(folder / "n"), *network)
     files: Sequence[Word] = ["--banks", folder / "n-banks.csv", "--debts", folder / "n-debts.csv"]
@@ -136,21 +139,21 @@ def audit(folder: pathlib.Path, network: inputs.Network, *how: str) -> Spent:
 
 def audit_raises(folder: pathlib.Path) -> Spent:
     """A million raises on ten debts."""
-    return audit(folder, inputs.ring(10, 100_000, 1), "--sweeps", "1000")
+    return audit(folder, ring(10, 100_000, 1), "--sweeps", "1000")
 
 
 def audit_banks(folder: pathlib.Path) -> Spent:
     """The largest network of the standard limits."""
-    return audit(folder, inputs.largest("mixed"))
+    return audit(folder, largest("mixed"))
 
 
 def audit_units(folder: pathlib.Path) -> Spent:
     """Thirty banks with claims of thousands of units each."""
     draw = random.Random(5)
     pairs = sorted({tuple(draw.sample(range(30), 2)) for _ in range(600)})
-    banks: List[inputs.Bank] = [(f"N{n}", draw.randrange(200_000), inputs.RULES[n % 6]) for n in range(30)]
+    banks: List[Bank] = [(f"N{n}", draw.randrange(200_000), RULES[n % 6]) for n in range(30)]
     debts = [(f"N{a}", f"N{b}", draw.choice([1, 1, 2, 3]), draw.randint(0, 16_000)) for a, b in pairs]
-    return audit(folder, inputs.Network(banks, debts))
+    return audit(folder, Network(banks, debts))
 
 
 # What the completion takes, and a matrix.

@@ -1,5 +1,6 @@
 """Headless Chromium for tests of a page, driven by Selenium: Debian's packages chromium, chromium-driver and
 python3-selenium."""
+import importlib
 import json
 import os
 import shutil
@@ -7,13 +8,14 @@ import subprocess
 import sys
 import time
 import unittest
+from typing import Any, Callable, Dict, List, Tuple
 
 from common import python_with
 
 D3 = "/usr/share/nodejs/d3/dist/d3.min.js"
 
 
-def reason():
+def reason() -> str:
     """Makes Selenium importable, or says why the browser cannot be driven."""
     missing = [command for command in ("chromium", "chromedriver") if not shutil.which(command)]
     if missing:
@@ -39,20 +41,23 @@ def reason():
 REASON = reason()
 
 
+def selenium(module: str) -> Any:
+    """A module of Selenium, which has types in some versions alone."""
+    return importlib.import_module(f"selenium.webdriver.{module}")
+
+
 @unittest.skipIf(REASON, REASON)
 class Browsing(unittest.TestCase):
     """A browser without a window, which logs what is asked and what its console says."""
 
     WAIT = float(os.environ.get("WAIT", "120"))
+    driver: Any
 
     @classmethod
-    def setUpClass(cls):
+    def setUpClass(cls) -> None:
+        """Starts the browser, which all tests of a class share."""
         super().setUpClass()
-        from selenium import webdriver
-        from selenium.webdriver.chrome.options import Options
-        from selenium.webdriver.chrome.service import Service
-
-        options = Options()
+        options = selenium("chrome.options").Options()
         options.binary_location = shutil.which("chromium")
         for word in (
             "--headless=new",
@@ -65,17 +70,19 @@ class Browsing(unittest.TestCase):
         ):
             options.add_argument(word)
         options.set_capability("goog:loggingPrefs", {"browser": "ALL", "performance": "ALL"})
-        cls.driver = webdriver.Chrome(service=Service(shutil.which("chromedriver")), options=options)
+        service = selenium("chrome.service").Service(shutil.which("chromedriver"))
+        cls.driver = selenium("chrome.webdriver").WebDriver(service=service, options=options)
         cls.driver.set_script_timeout(cls.WAIT)
         cls.addClassCleanup(cls.driver.quit)
 
-    def setUp(self):
+    def setUp(self) -> None:
+        """Has the size, the media and the scripts of a window that was never touched."""
         super().setUp()
         self.run_of("Emulation.setScriptExecutionDisabled", value=False)
         self.run_of("Emulation.setEmulatedMedia", media="", features=[])
         self.size(1280, 900)
 
-    def logged(self):
+    def logged(self) -> Tuple[List[str], List[str]]:
         """What the console said, and the addresses that were asked for, since the last call; the page is left."""
         told = [entry["message"] for entry in self.driver.get_log("browser")]
         events = [json.loads(entry["message"])["message"] for entry in self.driver.get_log("performance")]
@@ -87,29 +94,33 @@ class Browsing(unittest.TestCase):
         self.driver.get_log("browser")
         return told, asked
 
-    def run_of(self, command, **words):
-        return self.driver.execute_cdp_cmd(command, words)
+    def run_of(self, command: str, **words: object) -> Dict[str, Any]:
+        """What a command of Chromium's protocol for developers answers."""
+        answer: Dict[str, Any] = self.driver.execute_cdp_cmd(command, words)
+        return answer
 
-    def size(self, wide, tall):
+    def size(self, wide: int, tall: int) -> None:
+        """Has the window so many points wide and tall."""
         self.run_of("Emulation.setDeviceMetricsOverride", width=wide, height=tall, deviceScaleFactor=1, mobile=False)
 
-    def js(self, script, *words):
+    def js(self, script: str, *words: object) -> Any:
+        """What a script of the page returns, which has the words as `arguments`."""
         return self.driver.execute_script(script, *words)
 
-    def until(self, holds):
+    def until(self, holds: Callable[[], object]) -> None:
         """Waits for something to hold; the machine may be busy with something else."""
         ends = time.monotonic() + self.WAIT
         while not holds():
             self.assertLess(time.monotonic(), ends, "it never came to be")
             time.sleep(0.03)
 
-    def click(self, key):
+    def click(self, key: str) -> None:
+        """Clicks the element of an id."""
         self.js("document.getElementById(arguments[0]).click()", key)
 
-    def press(self, *keys):
-        from selenium.webdriver.common.action_chains import ActionChains
-
-        ActionChains(self.driver).send_keys(*keys).perform()
+    def press(self, *keys: str) -> None:
+        """Presses keys in turn, where the focus is."""
+        selenium("common.action_chains").ActionChains(self.driver).send_keys(*keys).perform()
 
 
 # Each text that can be seen against the nearest ground behind it, by the contrast of WCAG 2; text in a drawing has a

@@ -1,6 +1,7 @@
 """What the tests share: the program (from the environment variable CLEARING, else the repository's `./clearing`), the
 tools, the two packages, the networks of `examples/`, and a case with a folder of its own."""
 import functools
+import importlib.util
 import os
 import pathlib
 import shutil
@@ -8,6 +9,7 @@ import subprocess
 import sys
 import tempfile
 import unittest
+from typing import Any, Callable, List, Optional, TypeVar, Union
 
 ROOT = pathlib.Path(__file__).resolve().parents[1]
 PROGRAM = os.environ.get("CLEARING") or str(ROOT / "clearing")
@@ -19,29 +21,32 @@ sys.path.insert(0, str(PACKAGES))
 
 EXAMPLES = sorted(path.parent for path in (ROOT / "examples").glob("*/banks.csv"))
 CHAIN, HUB, TWELVE = (ROOT / "examples" / name for name in ("chain", "hub", "twelve-banks"))
+# A class of tests or a test, which a skip gives back.
+Tested = TypeVar("Tested", bound=Callable[..., Any])
+Word = Union[str, int, float, "os.PathLike[str]"]
+"""A word of a command line, of which it has the text."""
 
 
-def clearing(*words):
+def clearing(*words: Word) -> "subprocess.CompletedProcess[bytes]":
     """A run of the program, with its status, output and messages as bytes."""
     return subprocess.run([PROGRAM, *map(str, words)], stdin=subprocess.DEVNULL, capture_output=True)
 
 
-def file_of(name):
+def file_of(name: str) -> pathlib.Path:
     """The file of a command, which stands in bin/, or of a script for developers, such as `dev/man.py`."""
     return ROOT / ("tools" if "/" in name or name.endswith(".sh") else "bin") / name
 
 
-def run_of(name, python=None):
+def run_of(name: str, python: Optional[str] = None) -> List[str]:
     """The words that run one of the tools: a file of Python by the Python that runs the tests, or by another."""
     path = file_of(name)
-    return (
-        [python or sys.executable, str(path)]
-        if path.read_bytes().startswith(b"#!/usr/bin/env python3\n")
-        else [str(path)]
-    )
+    is_python = path.read_bytes().startswith(b"#!/usr/bin/env python3\n")
+    return [python or sys.executable, str(path)] if is_python else [str(path)]
 
 
-def tool(name, *words, python=None, cwd=None):
+def tool(
+    name: str, *words: Word, python: Optional[str] = None, cwd: Optional[pathlib.Path] = None
+) -> "subprocess.CompletedProcess[str]":
     """A run of one of the tools, with its status, output and messages as text; by another Python where one is named."""
     return subprocess.run(
         [*run_of(name, python), *map(str, words)],
@@ -52,103 +57,17 @@ def tool(name, *words, python=None, cwd=None):
     )
 
 
-# Names of banks that a shell, a spreadsheet, XML or a careless reader of lines may take for something else.
-ODD_NAMES = [
-    "$(touch X)",
-    "`touch X`",
-    "${IFS}",
-    "A$HOME",
-    "d'Italia",
-    "''",
-    "B&W",
-    "a;touch X",
-    "a|touch X",
-    "a>X",
-    "a<b",
-    "*",
-    "?",
-    "[a-z]*",
-    "~",
-    "~root",
-    "\\",
-    "a\\",
-    "\\n",
-    "!!",
-    "!$",
-    "#",
-    "a#b",
-    "{a..b}",
-    "(x)",
-    ")",
-    "%s%n",
-    "%q",
-    "a:b:c",
-    "a=b",
-    "=1+1",
-    "@SUM(A1)",
-    "+1",
-    "a  b",
-    "a - b",
-    "0",
-    "00",
-    "1e3",
-    "1",
-    "nan",
-    "order",
-    "name",
-    "cash",
-    "rule",
-    "debtor",
-    "total",
-    "rounds",
-    "null",
-    "true",
-    "<b>&amp;</b>",
-    "]]>",
-    "<!--",
-    "Crédit Loire",
-    "Cre\u0301dit Loire",
-    "Straße",
-    "STRASSE",
-    "İ",
-    "漢字",
-    "עברית",
-    "😀",
-    "\U0010ffff",
-    "\u00a0A",
-    "A\u00a0",
-    "A\u200b",
-    "\u200bA",
-    "\ufeffA",
-    "A\ufeff",
-    "A\u2028B",
-    "A\u2029B",
-    "\u202eA",
-    "\ue000",
-    "\ufffd",
-    "\u00ad",
-    "x" * 64,
-    "é" * 32,
-    "😀" * 16,
-]
-
-
-def all_names(first=0xA0, last=0x10FFFF, step=1):
-    """Names of at most 64 bytes in which every character from a first to a last one stands that a name may have."""
-    name, size = "", 0
-    for code in [*range(33, 127), *range(max(first, 160), last + 1, step)]:
-        if 0xD800 <= code <= 0xDFFF or chr(code) in ',"':
-            continue
-        more = len(chr(code).encode())
-        if size + more > 62:
-            yield f"N{name}N"
-            name, size = "", 0
-        name, size = name + chr(code), size + more
-    yield f"N{name}N"
+def loaded(path: pathlib.Path) -> Any:
+    """A script as a module, whatever other modules have its name."""
+    spec = importlib.util.spec_from_file_location(path.stem, path)
+    assert spec and spec.loader
+    module = importlib.util.module_from_spec(spec)
+    spec.loader.exec_module(module)
+    return module
 
 
 @functools.cache
-def python_with(*modules):
+def python_with(*modules: str) -> Optional[str]:
     """A Python that can import some modules: the one that runs the tests, else the system's, else none."""
     for python in (sys.executable, "/usr/bin/python3"):
         # A folder that a package has left behind is no module.
@@ -158,13 +77,13 @@ def python_with(*modules):
     return None
 
 
-def needs(*commands):
+def needs(*commands: str) -> Callable[[Tested], Tested]:
     """Skips a test or a class where a command is not on the path."""
     missing = [command for command in commands if not shutil.which(command)]
     return unittest.skipIf(missing, f"{', '.join(missing)} is not on the path")
 
 
-def needs_modules(*modules):
+def needs_modules(*modules: str) -> Callable[[Tested], Tested]:
     """Skips a test or a class where neither Python has some modules; else python_with names the one that has them."""
     return unittest.skipUnless(python_with(*modules), f"no Python here has {', '.join(modules)}")
 
@@ -173,7 +92,7 @@ def needs_modules(*modules):
 needs_checkout = unittest.skipUnless((ROOT / "crates.txt").is_file(), "of a checkout, and not of a wheel")
 
 
-def there(name):
+def there(name: str) -> bool:
     """Whether a package is there, and not hidden by `run.py --without`."""
     try:
         __import__(name)
@@ -182,34 +101,37 @@ def there(name):
     return True
 
 
-def needs_packages(*names):
+def needs_packages(*names: str) -> Callable[[Tested], Tested]:
     """Skips a test or a class where this Python has not some packages, or they are hidden."""
     missing = [name for name in names if not there(name)]
     return unittest.skipIf(missing, f"without {', '.join(missing)}")
 
 
-def printed(*words):
+def printed(*words: Word) -> str:
     """What the program prints for these words, which ends with 0 or 7."""
     done = clearing(*words)
     if done.returncode not in (0, 7):
-        raise AssertionError(f"{words}: {done.returncode} {done.stderr}")
+        raise AssertionError(f"{words}: {done.returncode} {done.stderr!r}")
     return done.stdout.decode()
 
 
-def files_of(folder):
+def files_of(folder: pathlib.Path) -> List[Word]:
     """The words that name the two files of an example."""
     return ["--banks", folder / "banks.csv", "--debts", folder / "debts.csv"]
 
 
 class Case(unittest.TestCase):
+    """A test with a folder of its own, which goes with it."""
+
     maxDiff = 2000
 
-    def setUp(self):
+    def setUp(self) -> None:
+        """Makes the folder."""
         folder = tempfile.TemporaryDirectory()
         self.addCleanup(folder.cleanup)
         self.folder = pathlib.Path(folder.name)
 
-    def file(self, name, content=None):
+    def file(self, name: str, content: Union[str, bytes, None] = None) -> pathlib.Path:
         """The path of a file of the test's folder, written first where there is a content."""
         path = self.folder / name
         if isinstance(content, str):
@@ -218,32 +140,36 @@ class Case(unittest.TestCase):
             path.write_bytes(content)
         return path
 
-    def program(self, script):
-        """Has a script of the shell in the place of the program, for this test."""
-        path = self.file("clearing", "#!/bin/sh\n" + script)
+    def executable(self, name: str, lines: str) -> pathlib.Path:
+        """The path of a script of the shell in the test's folder, which may be run as a program."""
+        path = self.file(name, "#!/bin/sh\n" + lines)
         path.chmod(0o755)
-        self.addCleanup(os.environ.__setitem__, "CLEARING", os.environ["CLEARING"])
-        os.environ["CLEARING"] = str(path)
+        return path
 
-    def printed(self, *words):
+    def program(self, lines: str) -> None:
+        """Has a script of the shell in the place of the program, for this test."""
+        self.addCleanup(os.environ.__setitem__, "CLEARING", os.environ["CLEARING"])
+        os.environ["CLEARING"] = str(self.executable("clearing", lines))
+
+    def printed(self, *words: Word) -> str:
         """What the program prints, which ends with 0."""
         done = clearing(*words)
         self.assertEqual((done.returncode, done.stderr), (0, b""), words)
         return done.stdout.decode()
 
-    def made(self, name, *words):
+    def made(self, name: str, *words: Word) -> str:
         """What a tool prints, which ends with 0 and without a message."""
         done = tool(name, *words)
         self.assertEqual((done.returncode, done.stderr), (0, ""), words)
         return done.stdout
 
-    def told(self, name, *words, python=None):
+    def told(self, name: str, *words: Word, python: Optional[str] = None) -> str:
         """The summary that a tool tells on standard error; it ends with 0 and prints nothing else."""
         done = tool(name, *words, python=python)
         self.assertEqual((done.returncode, done.stdout), (0, ""), (words, done.stderr))
         return done.stderr
 
-    def refused(self, name, status, message, *words):
+    def refused(self, name: str, status: int, message: str, *words: Word) -> None:
         """A tool ends with a status and a message that has these words, and prints nothing."""
         done = tool(name, *words)
         self.assertEqual((done.returncode, done.stdout), (status, ""), done.stderr)

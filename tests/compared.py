@@ -1,11 +1,12 @@
 """What the tests beside the plain model share: a network is written, and what each task prints of it is compared."""
+import importlib
 import sys
 from typing import Any, Callable
 
-from common import ROOT, Case
+from common import ROOT, Case, Word, files_of
 
 sys.path.insert(0, str(ROOT / "tests/system"))
-import model  # noqa: E402
+model: Any = importlib.import_module("model")
 
 
 class Compared(Case):
@@ -13,18 +14,15 @@ class Compared(Case):
 
     def write(self, net: Any) -> None:
         """Writes the two files of a network, which the words of each task then name."""
-        self.files = [
-            "--banks",
-            self.file("banks.csv", model.banks_text(net, True)),
-            "--debts",
-            self.file("debts.csv", model.debts_text(net)),
-        ]
+        self.file("banks.csv", model.banks_text(net, True))
+        self.file("debts.csv", model.debts_text(net))
+        self.files = files_of(self.folder)
 
-    def text(self, task: str, *more: object) -> str:
+    def text(self, task: str, *more: Word) -> str:
         """What a task prints of the network."""
         return self.printed(task, *self.files, *more)
 
-    def same(self, wanted: str, task: str, *more: object, cut: Callable[[str], str] = lambda text: text) -> None:
+    def same(self, wanted: str, task: str, *more: Word, cut: Callable[[str], str] = lambda text: text) -> None:
         """Compares long texts, or what is cut from them, without a long message, and goes on."""
         with self.subTest(task=task, more=[str(word) for word in more]):
             told = cut(self.text(task, *more))

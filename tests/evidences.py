@@ -5,12 +5,13 @@ import os
 import pathlib
 import shutil
 import subprocess
+from typing import Any
 
-from common import HUB, PROGRAM, ROOT, Case
+from common import HUB, PROGRAM, ROOT, Case, Word, files_of
 
 SCRIPT = str(ROOT / "bin/clearing-evidence")
 # What of the tools checks evidence by itself.
-PARTS = ("__init__.py", "files.py", "finding.py", "running.py", "runner.py", "saying.py", "evidence")
+PARTS = ("__init__.py", "files.py", "finding.py", "running.py", "runner.py", "saying.py", "way.py", "evidence")
 
 SCENARIOS = """[[scenario]]
 name = "half"
@@ -29,49 +30,49 @@ name = "nothing"
 """
 
 
-def evidence(*words, program=PROGRAM, **more):
-    """A run of the tool with a program."""
+def evidence(*words: Word, program: str = PROGRAM, **more: Any) -> Any:
+    """A run of the tool with a program, and with what subprocess.run takes besides."""
     environment = {**os.environ, "CLEARING": program, "PYTHONDONTWRITEBYTECODE": "1"}
     return subprocess.run(
         [SCRIPT, *map(str, words)], env=environment, stdin=subprocess.DEVNULL, capture_output=True, **more
     )
 
 
+def content_of(path: pathlib.Path) -> bytes:
+    """What a file has. What is far too long is not read, here neither."""
+    return path.read_bytes() if path.stat().st_size < 1 << 30 else b""
+
+
 class EvidenceCase(Case):
     """A case that makes folders of evidence and checks them."""
 
-    def hub(self, scenarios=SCENARIOS):
+    def hub(self, scenarios: str = SCENARIOS) -> pathlib.Path:
         """Evidence of the hub with scenarios and a rescue."""
-        words = [
-            "--banks",
-            HUB / "banks.csv",
-            "--debts",
-            HUB / "debts.csv",
-            "--scenarios",
-            self.file("s.toml", scenarios),
-        ]
         folder = self.folder / "evidence"
-        done = evidence("make", folder, *words, "--bank", "South")
+        words = [*files_of(HUB), "--scenarios", self.file("s.toml", scenarios), "--bank", "South"]
+        done = evidence("make", folder, *words)
         self.assertEqual((done.returncode, done.stderr), (0, b""))
         return folder
 
-    def sums_anew(self, folder):
+    def sums_anew(self, folder: pathlib.Path) -> None:
         """Has the checksums of all that is in a folder."""
         names = sorted(
             str(path.relative_to(folder)) for path in folder.rglob("*") if path.is_file() and path.name != "SHA256SUMS"
         )
-        # What is far too long is not read, here neither.
-        content = lambda path: path.read_bytes() if path.stat().st_size < 1 << 30 else b""
-        sums = [f"{hashlib.sha256(content(folder / name)).hexdigest()}  {name}\n" for name in names]
+        sums = [f"{hashlib.sha256(content_of(folder / name)).hexdigest()}  {name}\n" for name in names]
         (folder / "SHA256SUMS").write_bytes(os.fsencode("".join(sums)))
 
-    def without_program(self, *words, **more):
+    def without_program(self, *words: Word, **more: Any) -> Any:
         """A run of a copy of the tool alone, where no program is built."""
         package = pathlib.Path("python/src/clearing_tools")
-        for name in ("bin/clearing-evidence", *(package / part for part in PARTS)):
-            if not (self.folder / name).exists():
-                (self.folder / name).parent.mkdir(parents=True, exist_ok=True)
-                (shutil.copytree if (ROOT / name).is_dir() else shutil.copy)(ROOT / name, self.folder / name)
+        for name in (pathlib.Path("bin/clearing-evidence"), *(package / part for part in PARTS)):
+            if (self.folder / name).exists():
+                continue
+            (self.folder / name).parent.mkdir(parents=True, exist_ok=True)
+            if (ROOT / name).is_dir():
+                shutil.copytree(ROOT / name, self.folder / name)
+            else:
+                shutil.copy(ROOT / name, self.folder / name)
         environment = {key: value for key, value in os.environ.items() if key != "CLEARING"}
         environment["PYTHONDONTWRITEBYTECODE"] = "1"
         run = [str(self.folder / "bin/clearing-evidence"), *map(str, words)]

@@ -9,15 +9,22 @@ import pathlib
 import time
 import unittest
 from decimal import Decimal
+from typing import Dict, Iterable, Iterator, List, Mapping, Optional, Sequence, Tuple
 
 from browser import Browsing
-from common import ODD_NAMES, ROOT, Case, all_names, clearing, files_of, python_with, tool
+from common import TWELVE, Case, Word, clearing, files_of, python_with, tool
+from odd_names import MARKUP, ODD_NAMES, all_names, untrimmed
 
+__all__ = [
+    "PYTHON", "TWELVE", "InTheBrowser", "Reader", "Report", "amount", "files_of", "is_running", "largest",
+    "networks_of_every_character", "odd_net", "outside_net", "ring_with_outside", "rows_of",
+]
 PYTHON = python_with("jinja2")
-TWELVE = ROOT / "examples/twelve-banks"
+Attributes = Dict[str, Optional[str]]
+"""The attributes of an element."""
 
 
-def largest(folder):
+def largest(folder: pathlib.Path) -> List[Word]:
     """The largest network that is allowed: 1,000 banks and 20,000 debts, of which many are not paid in full."""
     banks = [f"bank {i},{i * 7919 % 5000},webster" for i in range(1000)]
     debts = [
@@ -28,7 +35,7 @@ def largest(folder):
     return files_of(folder)
 
 
-def outside_net(folder):
+def outside_net(folder: pathlib.Path) -> List[Word]:
     """Four banks that owe outside: A pays less there than it owes, B defaults on its debts, C pays all."""
     (folder / "banks.csv").write_text(
         "name,cash,rule,outside\nA,3,order,9\nB,10,webster,4\nC,50,equal,5\nD,0,adams,0\n"
@@ -39,7 +46,7 @@ def outside_net(folder):
     return files_of(folder)
 
 
-def ring_with_outside(folder, count):
+def ring_with_outside(folder: pathlib.Path, count: int) -> List[Word]:
     """So many banks in a ring, each of which owes outside too; some pay all of that, some a part, some nothing."""
     banks = [f"bank {at},{at * 7 % 11},equal,{2 + at % 5}" for at in range(count)]
     debts = [f"bank {at},bank {(at + 1) % count},1,{1 + at * 5 % 9}" for at in range(count)] if count > 1 else []
@@ -48,14 +55,9 @@ def ring_with_outside(folder, count):
     return files_of(folder)
 
 
-def odd_net(folder, most=None):
+def odd_net(folder: pathlib.Path, most: Optional[int] = None) -> Tuple[List[Word], List[str]]:
     """A ring of banks with names that HTML, a script or a reader of lines may take for something else."""
-    names = list(
-        dict.fromkeys(
-            ["<script>alert(1)</script>", "</script>", "<img src=x onerror=alert(1)>", "&amp;", "&", "'", *ODD_NAMES]
-        )
-    )
-    names = [name for name in names if name.strip(" \t") == name][:most]
+    names = untrimmed([*MARKUP, *ODD_NAMES])[:most]
     (folder / "banks.csv").write_text(
         "name,cash,rule\n" + "".join(f"{name},{at % 3},equal\n" for at, name in enumerate(names))
     )
@@ -64,41 +66,12 @@ def odd_net(folder, most=None):
     return files_of(folder), names
 
 
-def networks_of_every_character():
+def networks_of_every_character() -> Iterator[List[str]]:
     """The names of networks of up to 900 banks: in the first those that HTML or a script may take for something else,
     in others every allowed character of up to three bytes, and in the last some of four. With REPORT_NAMES=all in the
     environment all of four too.
     """
-    harmful = [
-        "<script>alert(1)</script>",
-        "</script>",
-        "<img src=x onerror=alert(1)>",
-        "&amp;",
-        "&",
-        "'",
-        "</noscript><script>alert(1)</script>",
-        "<svg onload=alert(1)>",
-        "<!--",
-        "-->",
-        "]]>",
-        "<![CDATA[",
-        "javascript:alert(1)",
-        "</title>",
-        "</style>",
-        "<base href=//x>",
-        "{{x}}",
-        "${alert(1)}",
-        "\\u003cscript",
-        "<a href=#>x</a>",
-        "__proto__",
-        "constructor",
-        "toString",
-        "0",
-        "-1",
-        "null",
-        *ODD_NAMES,
-    ]
-    names = [name for name in dict.fromkeys(harmful) if name.strip(" \t") == name]
+    names = untrimmed([*MARKUP, *ODD_NAMES])
     yield names[:38]
     yield names
     every = [*all_names(last=0xFFFF), *all_names(0x10000, step=1 if os.environ.get("REPORT_NAMES") == "all" else 211)]
@@ -106,19 +79,19 @@ def networks_of_every_character():
         yield list(dict.fromkeys(every[at : at + 900]))
 
 
-def rows_of(task, files, *more):
+def rows_of(task: str, files: Iterable[Word], *more: Word) -> List[List[str]]:
     """The records of a table that the program prints, without the sums at the end of the defaults."""
     lines = clearing(task, *files, *more).stdout.decode().split("\n")
     return [line.split(",") for line in lines[1:] if line and not line.startswith(("total,", "cash,"))]
 
 
-def amount(units, unit):
+def amount(units: str, unit: str) -> str:
     """A number of units as the page has it, where a unit is worth so much."""
     worth = Decimal(unit).normalize()
-    return f"{int(units) * worth:,.{max(0, -worth.as_tuple().exponent)}f}"
+    return f"{int(units) * worth:,.{max(0, -int(worth.as_tuple().exponent))}f}"
 
 
-def is_running(process):
+def is_running(process: int) -> bool:
     """Whether a process is there and has not ended; one that was killed may take a moment."""
     deadline = time.monotonic() + 5
     while time.monotonic() < deadline:
@@ -136,13 +109,18 @@ class Reader(html.parser.HTMLParser):
     """What a page has: its elements with their attributes, and the texts of its scripts, styles and of the rows of
     its tables."""
 
-    def __init__(self, text):
+    def __init__(self, text: str) -> None:
         super().__init__()
-        self.elements, self.raw, self.rows, self.cell, self.inside = [], [], [], False, None
+        self.elements: List[Tuple[str, Attributes]] = []
+        self.raw: List[Tuple[str, Attributes, str]] = []  # of scripts and styles
+        self.rows: List[Tuple[Attributes, List[str]]] = []
+        self.cell = False
+        self.inside: Optional[Tuple[str, Attributes, List[str]]] = None
         self.feed(text)
         self.close()
 
-    def handle_starttag(self, tag, pairs):
+    def handle_starttag(self, tag: str, pairs: List[Tuple[str, Optional[str]]]) -> None:
+        """Notes an element."""
         self.elements.append((tag, dict(pairs)))
         if tag in ("script", "style"):
             self.inside = (tag, dict(pairs), [])
@@ -152,14 +130,16 @@ class Reader(html.parser.HTMLParser):
             self.rows[-1][1].append("")
             self.cell = True
 
-    def handle_endtag(self, tag):
+    def handle_endtag(self, tag: str) -> None:
+        """Notes the text of a script or a style, and that a cell has ended."""
         if self.inside and tag == self.inside[0]:
             self.raw.append((self.inside[0], self.inside[1], "".join(self.inside[2])))
             self.inside = None
         if tag in ("td", "th", "tr", "table"):
             self.cell = False
 
-    def handle_data(self, data):
+    def handle_data(self, data: str) -> None:
+        """Notes a text."""
         if self.inside:
             self.inside[2].append(data)
         elif self.cell:
@@ -168,7 +148,10 @@ class Reader(html.parser.HTMLParser):
 
 @unittest.skipUnless(PYTHON, "no Python here has jinja2 (Debian's package python3-jinja2)")
 class Report(Case):
-    def page(self, files, *more, status=0, message=""):
+    """A case that makes reports."""
+
+    def page(self, files: Iterable[Word], *more: Word, status: int = 0, message: str = "") -> str:
+        """The page of a report on some files; with a status other than 0 there is none."""
         out = self.folder / "report.html"
         done = tool("clearing-report", *files, "--out", out, *more, python=PYTHON)
         self.assertEqual((done.returncode, done.stdout), (status, ""), done.stderr)
@@ -177,10 +160,13 @@ class Report(Case):
 
 
 class InTheBrowser(Browsing, Report):
-    def tearDown(self):
+    """A case that opens reports in the browser."""
+
+    def tearDown(self) -> None:
+        """The page was quiet."""
         self.assert_quiet()
 
-    def assert_quiet(self):
+    def assert_quiet(self) -> None:
         """No request leaves the page, and no error is on the console."""
         told, asked = self.logged()
         # What the page makes itself, such as a picture to be saved, has an address too, and leaves it by no request.
@@ -188,38 +174,47 @@ class InTheBrowser(Browsing, Report):
         self.assertEqual(left, [])
         self.assertEqual(told, [])
 
-    def open(self, files, *more, part=""):
+    def open(self, files: Iterable[Word], *more: Word, part: str = "") -> None:
+        """Makes a report on some files, and opens it."""
         self.page(files, *more)
         self.address = (self.folder / "report.html").as_uri()
         self.driver.get(self.address + part)
 
-    def shown_rows(self):
+    def shown_rows(self) -> List[str]:
         """The names in the rows of the table of banks that can be seen, in their order."""
-        return self.js(
-            "return [...document.querySelectorAll('#banks-table tbody tr')].filter(r => r.checkVisibility())"
-            ".map(r => r.cells[0].textContent)"
+        return list(
+            self.js(
+                "return [...document.querySelectorAll('#banks-table tbody tr')].filter(r => r.checkVisibility())"
+                ".map(r => r.cells[0].textContent)"
+            )
         )
 
-    def heads(self):
+    def heads(self) -> List[str]:
         """The heads of the table of banks, without what the amounts are in."""
-        return self.js(
-            "return [...document.querySelectorAll('#banks-table thead button')].map(b =>"
-            " b.firstChild.textContent.trim())"
+        return list(
+            self.js(
+                "return [...document.querySelectorAll('#banks-table thead button')]"
+                ".map(b => b.firstChild.textContent.trim())"
+            )
         )
 
-    def flows(self):
+    def flows(self) -> Dict[str, float]:
         """What the drawing says of each debt drawn, and how wide it is drawn as unpaid: 0 where it is drawn as paid."""
-        return self.js(
+        found: Dict[str, float] = self.js(
             """return Object.fromEntries([...document.querySelectorAll('#network g[data-flow]')].map(g => {
             const line = g.querySelector('.line'), square = g.querySelector('.sq');
             const size = line ? +line.getAttribute('stroke-width') : +square.getAttribute('width');
             return [g.querySelector('title').textContent, g.classList.contains('done') ? 0 : size];
         }))"""
         )
+        return found
 
-    def expected_flows(self, paid_of, banks, outside):
-        """What it must say: for each pair the sums of its debts, and what is paid outside."""
-        pairs = {}
+    def expected_flows(
+        self, paid_of: Iterable[Tuple[Sequence[str], int]], outside: Mapping[str, Tuple[int, int]]
+    ) -> Dict[str, Tuple[int, int]]:
+        """What it must say of debts and what is paid of them: for each pair the sums of its debts; and of what each
+        bank owes and pays outside."""
+        pairs: Dict[Tuple[str, str], Tuple[int, int]] = {}
         for (debtor, creditor, _, claim), paid in paid_of:
             sums = pairs.get((debtor, creditor), (0, 0))
             pairs[debtor, creditor] = sums[0] + int(claim), sums[1] + paid
@@ -231,12 +226,13 @@ class InTheBrowser(Browsing, Report):
             for (debtor, creditor), (claim, paid) in pairs.items()
         }
 
-    def assert_same(self, shown, before):
+    def assert_same(self, shown: Mapping[str, float], before: Mapping[str, float]) -> None:
+        """Each debt is drawn as it was before, but for what rounding moves."""
         self.assertEqual(shown.keys(), before.keys())
         for title, size in shown.items():
             self.assertAlmostEqual(size, before[title], delta=0.11, msg=title)
 
-    def assert_flows(self, expected):
+    def assert_flows(self, expected: Mapping[str, Tuple[int, int]]) -> None:
         """Each debt is drawn, as paid where it is paid in full, and else as wide as what stays unpaid, from 2 to 15
         pixels."""
         shown = self.flows()

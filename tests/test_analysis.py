@@ -1,37 +1,23 @@
 """The tools that ask what would break a network, against the plain model."""
 import functools
-import importlib.util
-import os
-import pathlib
 import random
-import shutil
-import signal
 import statistics
-import subprocess
 import sys
-import threading
-import time
-import unittest.mock
+import unittest
 
-from common import PROGRAM, ROOT, Case, file_of, run_of, tool
+from analyses import AnalysisCase, records
+from common import ROOT, files_of
 
 sys.path.insert(0, str(ROOT / "tests/system"))
 import model  # noqa: E402
 import quick  # noqa: E402
 
 from clearing_client.records import Debt, Harm  # noqa: E402
-from clearing_tools import runner  # noqa: E402
 from clearing_tools.analysis import breaking, impact, losses, queries  # noqa: E402
-from clearing_tools.drawing import style  # noqa: E402
 from clearing_tools.evidence import audit  # noqa: E402
 
-EXAMPLES = ROOT / "examples"
 # The same networks are cleared hundreds of times: it pays to put more units into their order once.
 quick.SORTED = 200_000
-
-# The smallest network with all that counts: A owes outside too, B hangs on A, C on B, and D stands alone.
-SMALL_BANKS = "name,cash,rule,outside\nA,12,webster,4\nB,3,equal,0\nC,2,order,1\nD,5,adams,0\n"
-SMALL_DEBTS = "debtor,creditor,class,claim\nA,B,1,6\nA,C,2,3\nB,C,1,4\nB,A,2,3\nC,A,1,2\nC,D,1,3\n"
 
 
 class Solver:
@@ -57,49 +43,7 @@ class Solver:
         return self.standings(tuple(max(0, c - c * cut // 1000 - losses.get(i, 0)) for i, c in enumerate(self.cash)))
 
 
-def is_running(number):
-    """Whether a process runs; one that ended and was not waited for does not."""
-    try:
-        return pathlib.Path(f"/proc/{number}/stat").read_text().rsplit(") ", 1)[1][0] not in "ZX"
-    except OSError:
-        return False
-
-
-def records(text):
-    return [line.split(",") for line in text.removesuffix("\n").split("\n")[1:]]
-
-
-class Analysis(Case):
-    def small(self):
-        return [
-            "--banks",
-            self.file("small-banks.csv", SMALL_BANKS),
-            "--debts",
-            self.file("small-debts.csv", SMALL_DEBTS),
-        ]
-
-    def short(self):
-        """The same with banks in default."""
-        return [
-            "--banks",
-            self.file("short-banks.csv", SMALL_BANKS.replace("A,12,", "A,5,")),
-            "--debts",
-            self.small()[3],
-        ]
-
-    def generated(self):
-        """A network of 200 banks, some of them in default."""
-        banks, debts = self.file("g-banks.csv"), self.file("g-debts.csv")
-        self.made("clearing-gen-files", "--seed", 5, "--size", 200, "--tries", 500, "--banks", banks, "--debts", debts)
-        return ["--banks", banks, "--debts", debts]
-
-    def networks(self):
-        for name in ("twelve-banks", "core"):
-            yield name, ["--banks", EXAMPLES / name / "banks.csv", "--debts", EXAMPLES / name / "debts.csv"]
-        yield "small", self.small()
-        yield "short", self.short()
-        yield "generated", self.generated()
-
+class Analysis(AnalysisCase):
     def solver(self, words):
         return Solver(words[1].read_bytes(), words[3].read_bytes())
 
@@ -129,7 +73,7 @@ class Analysis(Case):
         self.assertEqual({int(cut) <= 1000 for _, cut, _ in found}, {True, False})
 
     def test_breaking_losses(self):
-        example = lambda name: ["--banks", EXAMPLES / name / "banks.csv", "--debts", EXAMPLES / name / "debts.csv"]
+        example = lambda name: files_of(ROOT / "examples" / name)
         for words, of in ((self.small(), 0), (example("twelve-banks"), 9), (example("core"), 2), (self.generated(), 7)):
             solver = self.solver(words)
             name = solver.net.banks[of].name.decode()
@@ -293,35 +237,6 @@ class Analysis(Case):
         self.refused("clearing-draws", 3, "cannot read", *words, "--past", self.folder / "none.csv")
         self.refused("clearing-draws", 2, "one of the arguments", *words)
 
-    # All four.
-
-    def commands(self):
-        past = self.file("past.csv", "year,cut\n2001,10\n2008,600\n")
-        return [
-            ["clearing-breaking"],
-            ["clearing-impact"],
-            ["clearing-rescues"],
-            ["clearing-draws", "--past", past, "--draws", "9"],
-        ]
-
-    def writers(self):
-        """Each tool, with each option that names a file of records to write."""
-        for command, options in zip(
-            self.commands(),
-            [["--output"], ["--ranking", "--matrix", "--defaults"], ["--output", "--saved"], ["--output", "--each"]],
-        ):
-            for option in options:
-                yield [*command, *self.short(), option]
-        yield [
-            "clearing-shock",
-            *self.short()[:2],
-            "--scenarios",
-            self.file("s.toml", '[[scenario]]\nname = "s"\n'),
-            "--scenario",
-            1,
-            "--output",
-        ]
-
     def test_names_of_any_kind(self):
         """The same numbers as with plain names."""
         names = ["total", "cash", "-x", "it's", "back\\slash", "$a b", "é\u2028é", "bank", "estate", "scenario,"[:-1]]
@@ -353,368 +268,6 @@ class Analysis(Case):
             for text in made["plain"]
         ]
         self.assertEqual(made["hostile"], plain)
-
-    def test_no_input_is_written_over(self):
-        words = self.small()
-        before = [path.read_bytes() for path in (words[1], words[3])]
-        for command, options in zip(
-            self.commands(),
-            [
-                ["--output", "--picture"],
-                ["--ranking", "--matrix", "--defaults", "--picture"],
-                ["--output", "--saved"],
-                ["--output", "--each", "--picture"],
-            ],
-        ):
-            for option in options:
-                self.refused(command[0], 2, "would be written over", *command[1:], *words, option, words[3])
-            same = self.folder / "same.csv"
-            self.refused(
-                command[0], 2, "would be written over", *command[1:], *words, options[0], same, options[1], same
-            )
-            self.refused(
-                command[0], 5, "cannot write", *command[1:], *words, options[0], self.folder / "none" / "out.csv"
-            )
-        self.assertEqual([path.read_bytes() for path in (words[1], words[3])], before)
-
-    def test_a_file_that_is_written_keeps_its_mode(self):
-        mask = os.umask(0)
-        os.umask(mask)
-        for number, (name, *words) in enumerate(self.writers()):
-            with self.subTest(tool=name, option=words[-1]):
-                kept, new = self.file("kept.csv", "old"), self.folder / f"new-{number}.csv"
-                for mode in (0o600, 0o640):
-                    kept.chmod(mode)
-                    self.made(name, *words, kept)
-                    self.assertEqual(kept.stat().st_mode & 0o777, mode)
-                self.made(name, *words, new)
-                self.assertEqual(new.stat().st_mode & 0o777, 0o666 & ~mask)
-                self.assertEqual((new.read_bytes(), b"old" in new.read_bytes()), (kept.read_bytes(), False))
-
-    def test_a_file_that_may_not_be_written_is_kept(self):
-        prefix = []
-        if os.geteuid() == 0:
-            prefix = ["setpriv", "--reuid=65534", "--regid=65534", "--clear-groups"]
-            if not shutil.which("setpriv"):
-                self.skipTest("setpriv is missing: root may write everywhere")
-        self.folder.chmod(0o777)
-        for name, *words in self.writers():
-            with self.subTest(tool=name, option=words[-1]):
-                run = [*prefix, sys.executable, "-B", str(file_of(name))]
-                tried = [
-                    [*run, "--help"],
-                    [
-                        *prefix,
-                        sys.executable,
-                        "-c",
-                        "import os, sys; sys.exit(not os.access(sys.argv[1], os.X_OK))",
-                        PROGRAM,
-                    ],
-                ]
-                if any(subprocess.run(each, capture_output=True).returncode for each in tried):
-                    self.skipTest("another user may not read the tools or the program")
-                kept = self.file("kept.csv", "old")
-                kept.chmod(0o444)
-                before = sorted(os.listdir(self.folder))
-                done = subprocess.run(
-                    [*run, *map(str, words), str(kept)], stdin=subprocess.DEVNULL, capture_output=True, encoding="utf-8"
-                )
-                self.assertEqual(
-                    (done.returncode, done.stderr), (5, f"{name}: cannot write {kept}: Permission denied\n")
-                )
-                self.assertEqual((kept.read_text(), sorted(os.listdir(self.folder))), ("old", before))
-                kept.unlink()
-
-    def test_a_picture_is_written_whole(self):
-        kept, link = self.file("kept.svg", "old"), self.folder / "link.png"
-        kept.chmod(0o600)
-        link.symlink_to(kept)
-        full = self.folder / "full.svg"
-        full.symlink_to("/dev/full")
-        kinds = []
-
-        class Figure:
-            def savefig(self, part, **more):
-                kinds.append(more["format"])
-                part.write(b"new")
-
-        class Broken:
-            def savefig(self, part, **more):
-                part.write(b"half")
-                raise ValueError("no such picture")
-
-        style.save(Figure(), str(link), folders=False)
-        self.assertEqual((kept.read_text(), kept.stat().st_mode & 0o777, link.is_symlink()), ("new", 0o600, True))
-        self.assertEqual(kinds, ["svg"])
-        for place, figure in (
-            (kept, Broken()),
-            (self.folder / "none.svg", Broken()),
-            (self.folder / "none" / "a.svg", Figure()),
-            (full, Figure()),
-        ):
-            with self.assertRaisesRegex(runner.ToolError, f"cannot write {place}: ") as failed:
-                style.save(figure, str(place), folders=False)
-            self.assertEqual((failed.exception.status, kept.read_text()), (1, "new"))
-        full.unlink()
-        self.assertEqual(sorted(os.listdir(self.folder)), ["kept.svg", "link.png"])
-
-    def test_an_output_that_cannot_be_written_ends_with_5(self):
-        for name, *words in self.writers():
-            for place in (
-                self.folder / "none" / "out.csv",
-                self.folder,
-                self.file("file", "") / "out.csv",
-                "/dev/full",
-            ):
-                with self.subTest(tool=name, option=words[-1], place=place):
-                    self.refused(name, 5, f"cannot write {place}: ", *words, place)
-            with open("/dev/full", "wb") as full:
-                done = subprocess.run([*run_of(name), *map(str, words[:-1])], stdout=full, stderr=subprocess.PIPE)
-            self.assertEqual((done.returncode, b"cannot write the output" in done.stderr), (5, True))
-
-    def test_failures_are_told(self):
-        words = self.small()
-        for command in self.commands():
-            self.refused(
-                command[0], 3, "cannot read", *command[1:], "--banks", self.folder / "none.csv", "--debts", words[3]
-            )
-            self.refused(
-                command[0], 4, "debts row 0: header (1)", *command[1:], "--banks", words[1], "--debts", words[1]
-            )
-
-    def with_program(self, script, name, *words, **more):
-        """A run of a tool by Popen, where this shell script stands in the program's place."""
-        program = self.file("program", f"#!/bin/sh\n{script}\nexec '{PROGRAM}' \"$@\"\n")
-        program.chmod(0o755)
-        running = subprocess.Popen(
-            [*run_of(name), *map(str, words)],
-            env={**os.environ, "CLEARING": str(program)},
-            stdin=subprocess.DEVNULL,
-            stdout=subprocess.PIPE,
-            stderr=subprocess.PIPE,
-            **more,
-        )
-        self.addCleanup(running.stdout.close)
-        self.addCleanup(running.stderr.close)
-        return running
-
-    def test_answers_that_are_none_are_told(self):
-        words = self.short()
-        # A program that says that all banks are sound in the last scenario of a file.
-        running = self.with_program(LYING % PROGRAM, "clearing-breaking", *words, "--loss", "A")
-        output, messages = running.communicate(timeout=60)
-        self.assertEqual((running.returncode, output), (1, b""), messages)
-        self.assertIn("milder_shock_hurts_nobody", messages.decode())
-        # One that answers another task, and one that leaves a scenario out.
-        script = f'case $1 in breaking|impact|rescues|outcomes) exec "{PROGRAM}" check "$2" "$3";; esac'
-        left_out = f'if [ "$1" = outcomes ]; then "{PROGRAM}" "$@" | sed 2d; exit; fi'
-        for script, command in [*((script, command) for command in self.commands()), (left_out, self.commands()[-1])]:
-            running = self.with_program(script, *command, *words)
-            output, messages = running.communicate(timeout=60)
-            self.assertEqual((running.returncode, output), (1, b""), messages)
-            self.assertIn("did not print", messages.decode())
-        for command in self.commands():
-            running = self.with_program(
-                f'case $1 in {ASKED}) echo "clearing: out of memory" >&2; exit 6;; esac', *command, *words
-            )
-            output, messages = running.communicate(timeout=60)
-            self.assertEqual((running.returncode, output), (1, b""))
-            self.assertIn("out of memory", messages.decode())
-
-    def test_an_interrupt_ends_at_once(self):
-        words = self.short()
-        for command in self.commands():
-            output = self.folder / "out.csv"
-            begun = self.folder / f"{command[0]}.begun"
-            running = self.with_program(
-                f'case $1 in {ASKED}) echo $$ >>"{begun}"; exec sleep 60;; esac',
-                *command,
-                *words,
-                "--ranking" if command[0] == "clearing-impact" else "--output",
-                output,
-                start_new_session=True,
-            )
-            deadline = time.monotonic() + 30
-            while not begun.exists() and time.monotonic() < deadline:
-                time.sleep(0.02)
-            sent = time.monotonic()
-            running.send_signal(signal.SIGINT)
-            self.assertEqual(running.wait(30), 130)
-            self.assertLess(time.monotonic() - sent, 20)
-            self.assertFalse(output.exists())
-            # What is ended may take a moment to be gone.
-            while (
-                left := [number for number in begun.read_text().split() if is_running(number)]
-            ) and time.monotonic() - sent < 20:
-                time.sleep(0.05)
-            self.assertEqual(left, [])
-
-    def test_an_interrupt_while_a_run_is_begun_leaves_none(self):
-        """By both packages: a signal that comes as soon as the new process is there, before Popen has answered."""
-        program = self.file("program", f'#!/bin/sh\necho $$ >>"{self.folder}/begun"; exec sleep 60\n')
-        program.chmod(0o755)
-        code = """
-import os, signal, subprocess, sys, time
-begin = subprocess.Popen.__init__
-def begins(*given, **more):
-    begin(*given, **more)
-    while not os.path.exists(sys.argv[1]) or not open(sys.argv[1]).read():
-        time.sleep(0.01)
-    os.kill(os.getpid(), getattr(signal, sys.argv[2]))
-    time.sleep(0.05)
-subprocess.Popen.__init__ = begins
-if sys.argv[3] == "tools":
-    from clearing_tools import runner
-    runner.ProgramRuns().run([os.environ["CLEARING"]])
-else:
-    import clearing_client as cc
-    cc.Network({"A": 1}, {}).check()
-"""
-        for package in ("tools", "client"):
-            with self.subTest(package=package):
-                begun = self.folder / "begun"
-                begun.unlink(missing_ok=True)
-                environment = {**os.environ, "CLEARING": str(program), "PYTHONPATH": str(ROOT / "python/src")}
-                done = subprocess.run(
-                    [sys.executable, "-c", code, str(begun), "SIGINT", package],
-                    env=environment,
-                    stdin=subprocess.DEVNULL,
-                    capture_output=True,
-                    timeout=60,
-                )
-                self.assertEqual(done.returncode, -signal.SIGINT, done.stderr.decode())
-                self.assertFalse(is_running(begun.read_text().strip()))
-
-    def test_no_work_goes_on_behind_a_fault(self):
-        class Fault(BaseException):
-            pass
-
-        asking, started, begun, ended = runner.ProgramRuns(), threading.Event(), [], []
-
-        def work(item):
-            if item == "fault":
-                started.wait(10)
-                raise Fault
-            begun.append(item)
-            started.set()
-            time.sleep(0.2)
-            ended.append(item)
-
-        with unittest.mock.patch("clearing_tools.running.processors", lambda: 2), self.assertRaises(Fault):
-            asking.all(work, ["fault", "write", *range(50)], "thing")
-        self.assertEqual((sorted(map(str, ended)), len(ended) < 10), (sorted(map(str, begun)), True))
-        # A run that ends with its child alive, which holds its output, is not waited for; and no run begins any more.
-        asking, sent = runner.ProgramRuns(), time.monotonic()
-        begun = self.folder / "begun"
-
-        def run(item):
-            if item == "fault":
-                while not begun.exists():
-                    time.sleep(0.01)
-                raise Fault
-            asking.run(["sh", "-c", f"sleep 30 & echo $! >'{begun}.part'; mv '{begun}.part' '{begun}'; wait"])
-
-        with unittest.mock.patch("clearing_tools.running.processors", lambda: 2), self.assertRaises(Fault):
-            asking.all(run, ["fault", "run"], "thing")
-        os.kill(int(begun.read_text()), signal.SIGKILL)
-        self.assertLess(time.monotonic() - sent, 20)
-        with self.assertRaises(KeyboardInterrupt):
-            asking.run(["true"])
-
-    def test_a_request_to_end_leaves_no_file(self):
-        """At any moment, of the group of processes too, as at a terminal: the status is 130, and no file is left."""
-        past = self.file("past.csv", "year,cut\n" + "".join(f"{cut},{cut}\n" for cut in range(1000)))
-        banks, debts = self.file("g-banks.csv"), self.file("g-debts.csv")
-        self.made("clearing-gen-files", "--seed", 5, "--size", 600, "--tries", 9000, "--banks", banks, "--debts", debts)
-        banks.write_text(
-            "".join(
-                line if at == 0 else ",".join([line.split(",")[0], "9", line.split(",")[2]])
-                for at, line in enumerate(banks.read_text().splitlines(keepends=True))
-            )
-        )
-        place = self.folder / "place"
-        place.mkdir()
-        for tries in range(6):
-            running = subprocess.Popen(
-                [
-                    sys.executable,
-                    str(ROOT / "bin/clearing-draws"),
-                    "--banks",
-                    str(banks),
-                    "--debts",
-                    str(debts),
-                    "--past",
-                    str(past),
-                    "--draws",
-                    "9999",
-                ],
-                env={**os.environ, "CLEARING": PROGRAM, "TMPDIR": str(place)},
-                stdin=subprocess.DEVNULL,
-                stdout=subprocess.PIPE,
-                stderr=subprocess.PIPE,
-                start_new_session=True,
-            )
-            deadline = time.monotonic() + 30
-            while len(list(place.glob("*/*"))) < 1 + tries % 2 and time.monotonic() < deadline:
-                time.sleep(0.01)
-            for _ in range(1 + tries % 3):
-                (os.kill if tries % 2 else os.killpg)(running.pid, signal.SIGINT if tries % 4 == 2 else signal.SIGTERM)
-            output, messages = running.communicate(timeout=30)
-            self.assertEqual((running.returncode, output, messages), (130, b"", b""))
-            self.assertEqual(list(place.rglob("*")), [])
-
-    def test_a_terminal_is_told_how_far_it_is(self):
-        pty = importlib.import_module("pty")
-        main, other = pty.openpty()
-        running = subprocess.Popen(
-            [sys.executable, str(ROOT / "bin/clearing-breaking"), *map(str, self.small()), "--loss", "A"],
-            stdout=subprocess.DEVNULL,
-            stderr=other,
-        )
-        os.close(other)
-        said = b""
-        try:
-            while part := os.read(main, 4096):
-                said += part
-        except OSError:
-            pass
-        os.close(main)
-        self.assertEqual(running.wait(), 0)
-        self.assertIn(b"clearing-breaking: group of scenarios 0 of ", said)
-        self.assertTrue(said.endswith(b"\r\x1b[K"))
-
-    def test_pictures_are_drawn_where_matplotlib_is(self):
-        for command in self.commands():
-            if command[0] == "clearing-rescues":
-                continue
-            for name, words in (("svg", self.small()), ("png", self.small())):
-                picture = self.folder / f"picture.{name}"
-                done = tool(*command, *words, "--picture", picture)
-                if importlib.util.find_spec("matplotlib"):
-                    self.assertEqual((done.returncode, done.stderr), (0, ""))
-                    self.assertIn(b"</svg>" if name == "svg" else b"PNG", picture.read_bytes())
-                    picture.unlink()
-                else:
-                    self.assertEqual((done.returncode, done.stdout), (2, ""))
-                    self.assertIn("python3-matplotlib", done.stderr)
-        if not importlib.util.find_spec("matplotlib"):
-            self.skipTest("matplotlib is missing")
-
-
-# The tasks that the tools ask many times or for long.
-ASKED = "breaking|impact|rescues|outcomes"
-
-# All banks are sound in the last scenario of a file, and in no other.
-LYING = """if [ "$1" = stress ]; then
-    "%s" "$@" | awk -v last="$(grep -c '^..scenario..$' "$5")" '/^scenario,/ { at++ }
-        at == last { sub(/,(contagion|fundamental)$/, ",sound") } { print }'
-    exit
-fi"""
-
-if __name__ == "__main__":
-    import unittest
-
-    unittest.main()
 
 
 class Once(unittest.TestCase):
@@ -748,3 +301,7 @@ class Once(unittest.TestCase):
         debts.times = 0
         depths = list(breaking.depths_of(network, 1000, range(200)))
         self.assertEqual((debts.times, 0 < len(depths) <= 200), (1, True))
+
+
+if __name__ == "__main__":
+    unittest.main()

@@ -1,18 +1,15 @@
 """The picture of the architecture is that of crates.txt and the sources as they are; neither has anything that nothing
 uses, and each lemma says in words what it states."""
 import collections
-import importlib.util
 import re
 import shutil
 import subprocess
 import unittest
 import xml.etree.ElementTree as xml
 
-from common import ROOT, Case, tool
+from common import ROOT, Case, loaded, tool
 
-SPEC = importlib.util.spec_from_file_location("architecture", ROOT / "tools/dev/architecture.py")
-architecture = importlib.util.module_from_spec(SPEC)
-SPEC.loader.exec_module(architecture)
+architecture = loaded(ROOT / "tools/dev/architecture.py")
 # A call, or a function that is passed on; and a function that a file offers, with the first line of its body, which a
 # law has not.
 CALL = re.compile(r"(?<!fn )\b(\w+)\b(?=\(|::<|\)|,)")

@@ -16,7 +16,7 @@ import unittest.mock
 from common import PACKAGES, ROOT
 from evidences import EvidenceCase, evidence
 
-from clearing_tools.evidence import audit, checking, parts, source  # noqa: E402
+from clearing_tools.evidence import audit, checking, layout, plain_files, source  # noqa: E402
 from clearing_tools.runner import ToolError  # noqa: E402
 
 SHEET = "lender,borrower,amount\nB,A,10\nA,B,4\n"
@@ -286,7 +286,7 @@ class Sizes(EvidenceCase):
         network = audit.read_network(
             (folder / "inputs/banks.csv").read_bytes(), (folder / "inputs/debts.csv").read_bytes()
         )
-        most = parts.most_of_journal(network)
+        most = layout.most_of_journal(network)
         # Each raise pays a unit at least: no journal of the program is as long, by whatever workers.
         for journal in folder.glob("*/journal.csv"):
             self.assertLess(journal.stat().st_size, most)
@@ -302,9 +302,9 @@ class Sizes(EvidenceCase):
         copy.mkdir()
 
         def full(file, block):
-            raise parts.NoRoomError("No space left on device")
+            raise plain_files.NoRoomError("No space left on device")
 
-        with unittest.mock.patch.object(parts, "write_copy", full), self.assertRaises(parts.NoRoomError):
+        with unittest.mock.patch.object(plain_files, "write_copy", full), self.assertRaises(plain_files.NoRoomError):
             checking.Checking(folder, copy)
         # A folder of temporary files that has no room at all.
         where = self.folder / "none"

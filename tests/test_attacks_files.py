@@ -14,14 +14,14 @@ import time
 import unittest
 import unittest.mock
 
-from common import CHAIN, HUB, PROGRAM, ROOT, Case, tool
+from common import CHAIN, HUB, PROGRAM, ROOT, Case, files_of, tool
 
 from clearing_tools import files  # noqa: E402
 from clearing_tools.evidence import shock  # noqa: E402
 from clearing_tools.runner import ToolError  # noqa: E402
 
 ANOTHER = 54321
-FILES = ["--banks", HUB / "banks.csv", "--debts", HUB / "debts.csv"]
+FILES = files_of(HUB)
 
 
 def writers():
@@ -387,8 +387,7 @@ class WhoMayRead(Case):
     def test_the_end_of_a_terminal_is_a_request_to_end(self):
         place = self.folder / "place"
         place.mkdir()
-        program = self.file("slow", '#!/bin/sh\ncase $1 in clear) exec sleep 60;; esac\nexec "$REAL" "$@"\n')
-        program.chmod(0o755)
+        program = self.executable("slow", 'case $1 in clear) exec sleep 60;; esac\nexec "$REAL" "$@"\n')
         environment = {**os.environ, "CLEARING": str(program), "REAL": PROGRAM, "PYTHONDONTWRITEBYTECODE": "1"}
         running = subprocess.Popen(
             [str(ROOT / "bin/clearing-evidence"), "make", str(place / "evidence"), *map(str, FILES)],

@@ -2,18 +2,17 @@
 has some hundred megabytes and some seconds for them, and ends with a message."""
 import concurrent.futures
 import os
-import pathlib
 import resource
 import subprocess
 import unittest
 
-import test_hostile
-from common import HUB, PROGRAM, Case, clearing, run_of
+from common import HUB, PROGRAM, Case, clearing, files_of, run_of
+from places import EachTool
 from evidences import EvidenceCase
 
 from clearing_tools.evidence import audit, bounds  # noqa: E402
 
-FILES = ["--banks", HUB / "banks.csv", "--debts", HUB / "debts.csv"]
+FILES = files_of(HUB)
 
 
 def limited(megabytes, *words, python=None, seconds=120):
@@ -170,29 +169,21 @@ class Bounded(Case):
                 self.assertRegex(done.stderr, "longer than [0-9,]+ bytes")
 
 
-class Endless(unittest.TestCase):
+class Endless(EachTool):
     def test_a_file_without_an_end_ends_no_tool(self):
         """/dev/zero, and a file of 12 GiB that has no content, in the place of each input of each tool."""
-        lines = test_hostile.Failures("test_each_line_does_well")
-        lines.setUp()
-        self.addCleanup(lines.doCleanups)
-        sparse = lines.given("sparse", "")
+        sparse = self.given("sparse", "")
         os.truncate(sparse, 12 << 30)
         runs, seen = [], set()
-        for name, words, _, how in lines.each():
+        for name, words, _, how in self.each():
             for at, word in enumerate(words):
-                if (
-                    isinstance(word, pathlib.Path)
-                    and lines.inputs in word.parents
-                    and (name, word.name) not in seen
-                    and name != "clearing-why"
-                ):
+                if self.is_input(word) and (name, word.name) not in seen and name != "clearing-why":
                     seen.add((name, word.name))
                     endless = (sparse, "/dev/zero")[len(seen) % 2] if word.name != "jobs.tsv" else sparse
                     runs.append(
                         (
                             name,
-                            lines.placed([*words[:at], endless, *words[at + 1 :]], lines.out / f"place-{len(seen)}"),
+                            self.placed([*words[:at], endless, *words[at + 1 :]], self.out / f"place-{len(seen)}"),
                             how.get("python"),
                             word.name,
                         )

@@ -1,15 +1,14 @@
 """What tools say when their input is hostile: no traceback, no sign that moves a terminal, no line that a file has
 made up, nothing on a closed stream."""
 import os
-import pathlib
 import subprocess
 import sys
 import unittest
 
-import test_hostile
-from common import HUB, PROGRAM, ROOT, Case, run_of
+from common import HUB, PROGRAM, ROOT, Case, files_of, run_of
+from places import EachTool, Place
 
-FILES = ["--banks", HUB / "banks.csv", "--debts", HUB / "debts.csv"]
+FILES = files_of(HUB)
 MADE_UP = "x\nchecked: all files are fine\x1b[2J\x9b1A\u202e"
 
 
@@ -25,26 +24,23 @@ def ways(text):
     yield "a quote", "\n".join([header, '"' + "\n".join(rows)])
 
 
-class Hostile(unittest.TestCase):
+class Hostile(EachTool):
     def test_no_content_makes_a_traceback(self):
-        lines = test_hostile.Failures("test_each_line_does_well")
-        lines.setUp()
-        self.addCleanup(lines.doCleanups)
         seen = set()
-        for name, words, asks, how in lines.each():
+        for name, words, asks, how in self.each():
             for at, word in enumerate(words):
                 if (
-                    not (isinstance(word, pathlib.Path) and lines.inputs in word.parents)
+                    not self.is_input(word)
                     or (name, word.name) in seen
                     or name in ("clearing-why", "clearing-evidence", "clearing-many")
                 ):
                     continue
                 seen.add((name, word.name))
                 for about, text in ways(word.read_text(encoding="utf-8")):
-                    bad = lines.given("bad", text)
-                    done = lines.attempt(
+                    bad = self.given("bad", text)
+                    done = self.attempt(
                         name,
-                        *lines.placed([*words[:at], bad, *words[at + 1 :]], lines.out / f"{about}-{len(seen)}"),
+                        *self.placed([*words[:at], bad, *words[at + 1 :]], self.out / f"{about}-{len(seen)}"),
                         **how,
                     )
                     said = (done.stdout + done.stderr).decode(errors="replace")
@@ -56,22 +52,14 @@ class Hostile(unittest.TestCase):
                     bad.unlink()
 
     def test_no_name_of_a_file_makes_a_line(self):
-        lines = test_hostile.Failures("test_each_line_does_well")
-        lines.setUp()
-        self.addCleanup(lines.doCleanups)
         seen = set()
-        for name, words, asks, how in lines.each():
+        for name, words, asks, how in self.each():
             for at, word in enumerate(words):
-                if (
-                    isinstance(word, pathlib.Path)
-                    and lines.inputs in word.parents
-                    and name not in seen
-                    and name != "clearing-why"
-                ):
+                if self.is_input(word) and name not in seen and name != "clearing-why":
                     seen.add(name)
-                    done = lines.attempt(
+                    done = self.attempt(
                         name,
-                        *lines.placed([*words[:at], MADE_UP, *words[at + 1 :]], lines.out / f"place-{len(seen)}"),
+                        *self.placed([*words[:at], MADE_UP, *words[at + 1 :]], self.out / f"place-{len(seen)}"),
                         **how,
                     )
                     said = (done.stdout + done.stderr).decode(errors="replace")
@@ -82,7 +70,7 @@ class Hostile(unittest.TestCase):
                             self.assertNotIn(sign, said)
 
 
-class Words(test_hostile.Place):
+class Words(Place):
     def test_no_word_moves_a_terminal(self):
         for path in sorted((ROOT / "bin").iterdir()):
             for words in (

@@ -8,7 +8,7 @@ import subprocess
 import sys
 import unittest
 
-from common import CHAIN, HUB, PROGRAM, ROOT, Case, file_of, run_of
+from common import CHAIN, HUB, PROGRAM, ROOT, Case, file_of, files_of, run_of
 
 PLANTED = "#!/bin/sh\ntouch {}\necho planted\n"
 # Commands that scripts and tools call, each of which is planted.
@@ -204,7 +204,7 @@ class Planted(Case):
 
     def test_evidence_runs_nothing_above_the_package(self):
         """Neither the program of a repository that was planted there, nor what its settings of git name."""
-        net = ["--banks", HUB / "banks.csv", "--debts", HUB / "debts.csv"]
+        net = files_of(HUB)
         built = self.work / "crates/clear_main/out/clear_main"
         built.parent.mkdir()
         shutil.copy(self.work / "clearing", built)
@@ -259,7 +259,7 @@ class Planted(Case):
 
     def test_no_tool_runs_any_command_of_the_working_folder(self):
         """Not rt, git or a shell either, of which a report, an evidence and the scripts ask."""
-        net = ["--banks", HUB / "banks.csv", "--debts", HUB / "debts.csv"]
+        net = files_of(HUB)
         jobs = self.file("jobs.tsv", "\t".join(["a", "check", *map(str, net)]) + "\n")
         self.plant(COMMANDS)
         script = self.folder / "script"
@@ -313,7 +313,7 @@ class Planted(Case):
             self.assertEqual(done.stdout, left, given)
 
     def test_of_the_path_the_absolute_entries_alone_are_looked_at(self):
-        net = ["--banks", HUB / "banks.csv", "--debts", HUB / "debts.csv"]
+        net = files_of(HUB)
         moments = self.file("moments.csv", "of,mean,deviation\nSouth,1,1\n")
         jobs = self.file("jobs.tsv", "\t".join(["a", "check", *map(str, net)]) + "\n")
         made = self.run_in(

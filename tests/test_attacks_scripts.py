@@ -11,16 +11,15 @@ import time
 import unittest
 
 import test_launcher
-from common import HUB, PROGRAM, ROOT, Case
+from common import HUB, PROGRAM, ROOT, Case, files_of
 
-FILES = ["--banks", HUB / "banks.csv", "--debts", HUB / "debts.csv"]
+FILES = files_of(HUB)
 
 
 class Installing(Case):
     def setUp(self):
         super().setUp()
-        self.script = self.file("program", '#!/bin/sh\necho "$*"\n')
-        self.script.chmod(0o755)
+        self.script = self.executable("program", 'echo "$*"\n')
         self.prefix = self.folder / "prefix"
 
     def start(self, mask=0o022, **more):

@@ -7,7 +7,7 @@ import shutil
 import unittest
 
 import common
-from common import CHAIN, TWELVE, Case, needs_packages
+from common import CHAIN, TWELVE, Case, files_of, needs_packages
 
 import clearing_client as cc
 
@@ -225,7 +225,7 @@ class Imported(Case):
 class Taken(Case):
     """Tools that take a case in place of the two files."""
 
-    FILES = ["--banks", CHAIN / "banks.csv", "--debts", CHAIN / "debts.csv"]
+    FILES = files_of(CHAIN)
     TOOLS = ["clearing-breaking", "clearing-impact", "clearing-rescues", "clearing-to-matrix", "clearing-lint"]
 
     def setUp(self):

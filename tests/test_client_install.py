@@ -10,7 +10,7 @@ import unittest
 import zipfile
 from typing import Iterator
 
-from common import CHAIN, PACKAGES, ROOT, Case, python_with
+from common import CHAIN, PACKAGES, ROOT, Case, files_of, python_with
 
 sys.path.insert(0, str(ROOT / "python"))
 
@@ -98,7 +98,7 @@ class Install(Case):
         )
         self.assertEqual(told.strip(), str(ROOT / "clearing"))
         # Its commands are the tools.
-        files = ["--banks", CHAIN / "banks.csv", "--debts", CHAIN / "debts.csv"]
+        files = files_of(CHAIN)
         self.assertEqual(self.run_in(self.folder, self.folder / "clearing/bin/clearing-lint", *files), "no fault\n")
         help_ = self.run_in(self.folder, self.folder / "clearing/bin/clearing-from-list", "--help")
         self.assertTrue(help_.startswith("usage: clearing-from-list "), help_)
@@ -166,7 +166,7 @@ class Install(Case):
             " command.__file__.startswith(sys.argv.pop(1))\nsys.exit(command.main())"
         )
         report = self.folder / "report.html"
-        files = ["--banks", CHAIN / "banks.csv", "--debts", CHAIN / "debts.csv", "--out", report]
+        files = [*files_of(CHAIN), "--out", report]
         done = subprocess.run(
             [python, "-c", code, self.folder, *files], cwd=self.folder, env=there, capture_output=True, encoding="utf-8"
         )

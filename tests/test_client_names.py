@@ -1,96 +1,14 @@
 """Names of every character that the formats allow come through: tables, scenarios by either writer, words and
 results."""
-import sys
-import unicodedata
 import unittest
 
 from common import Case, needs_packages, there
+from odd_names import DASHED, ODD_NAMES, all_names, untrimmed
 
 import clearing_client as cc
 from clearing_client import Network, Scenario, Scenarios
 
-FORBIDDEN = set(',"')
-
-
-def allowed():
-    """Every character that may stand in a name: all but the comma, the double quote, controls and surrogates."""
-    for code in range(sys.maxunicode + 1):
-        if chr(code) not in FORBIDDEN and unicodedata.category(chr(code)) not in ("Cc", "Cs"):
-            yield chr(code)
-
-
-def names_of(characters):
-    """Names of up to 64 bytes of UTF-8 that have these characters in turn, with no blank at their ends."""
-    names, name = [], "<"
-    for one in characters:
-        if len((name + one).encode()) > 62:
-            names.append(name + ">")
-            name = f"{len(names)}<"
-        name += one
-    return [*names, name + ">"]
-
-
-HOSTILE = [
-    "'",
-    "\\",
-    "\\n",
-    "\\u0041",
-    "''",
-    "'''",
-    "#",
-    "[[scenario]]",
-    "a = 1",
-    "-",
-    "--",
-    "-A",
-    "--bank=A",
-    "$(touch x)",
-    "`x`",
-    "%s",
-    "{}",
-    "total",
-    "cash",
-    "scenario",
-    "bank",
-    "name",
-    "NA",
-    "nan",
-    "None",
-    "null",
-    "0",
-    "007",
-    "1e3",
-    "=1+1",
-    "@x",
-    "\ufeff",
-    "\ufeffA",
-    "\u00a0",
-    "\u2028",
-    "\u200b",
-    "\u202eabc",
-    "a\u0301",
-    "\u00e1",
-    "\U0010ffff",
-    "x" * 64,
-    "é" * 32,
-    "a b",
-    "a  b",
-    "*",
-    "?",
-    "~",
-    "/",
-    ".",
-    "..",
-    ";",
-    "a;b",
-    "&",
-    "|",
-    "<b>",
-    "true",
-    "inf",
-    "rounds",
-    "lawful",
-]
+NAMES = untrimmed([*ODD_NAMES, *DASHED])
 
 
 class Names(Case):
@@ -109,19 +27,19 @@ class Names(Case):
             for part in range(0, len(names), 100):
                 here = names[part : part + 100]
                 # A scenario of the bank's name, in which it alone loses what it has.
-                scenarios = Scenarios(Scenario(" " + name[:20], losses={name: 3}) for name in here)
+                scenarios = Scenarios(Scenario(" " + name[:15], losses={name: 3}) for name in here)
                 left = net.stress(self.file("s.toml", scenarios.to_toml(plain)))
-                self.assertEqual([one.name for one in left.scenarios], [" " + name[:20] for name in here])
+                self.assertEqual([one.name for one in left.scenarios], [" " + name[:15] for name in here])
                 for name, one in zip(here, left.scenarios):
                     self.assertEqual(one.total.cash, 3 * len(names) - 3)
         return net
 
     def test_hostile_names(self):
-        net = self.check_all(HOSTILE)
-        for name in HOSTILE:
+        net = self.check_all(NAMES)
+        for name in NAMES:
             with self.subTest(name=name):
                 saved = net.rescue(name)
-                self.assertEqual((saved.bank, saved.payments.column("debtor")), (name, HOSTILE))
+                self.assertEqual((saved.bank, saved.payments.column("debtor")), (name, NAMES))
 
     def test_a_bank_that_the_command_line_cannot_name_is_saved_all_the_same(self):
         banks, debts = [("-A", 7, "order"), ("0", 1, "order"), ("1", 0, "order")], [
@@ -136,10 +54,8 @@ class Names(Case):
         self.assertEqual(told.text, plain.text.replace("rescue,A,", "rescue,-A,").replace("\nA,", "\n-A,"))
 
     def test_characters_of_each_plane_and_all_of_the_first(self):
-        # All of the first 65,536, and some of each of the planes above.
-        characters = [one for one in allowed() if ord(one) < 0x10000 or ord(one) % 257 in (0, 254, 255)]
-        names = names_of(characters)
-        self.assertGreater(len(characters), 60_000)
+        names = list(dict.fromkeys([*all_names(last=0xFFFF), *all_names(0x10000, step=257)]))
+        self.assertGreater(sum(map(len, names)), 60_000)
         for part in range(0, len(names), 1000):
             self.check_some(names[part : part + 1000])
 
@@ -154,7 +70,7 @@ class Names(Case):
                 self.assertEqual(left.scenarios[0].total.cash, len(names) - len(names[part : part + 500]))
 
     def test_characters_that_no_name_may_have_are_refused_by_the_program(self):
-        for code in [*range(0x20), *range(0x7F, 0xA0), *map(ord, FORBIDDEN)]:
+        for code in [*range(0x20), *range(0x7F, 0xA0), *map(ord, ',"')]:
             name = f"a{chr(code)}b"
             with self.subTest(name=name):
                 for fault, call in [
@@ -167,7 +83,7 @@ class Names(Case):
 
     @needs_packages("tomli_w")
     def test_both_writers_say_the_same(self):
-        scenarios = Scenarios([Scenario(name, n, {name: 7, '\x01\x7f"\\\n\t': 8}) for n, name in enumerate(HOSTILE)])
+        scenarios = Scenarios([Scenario(name, n, {name: 7, '\x01\x7f"\\\n\t': 8}) for n, name in enumerate(NAMES)])
         import tomli_w
 
         document = {"scenario": [one.as_table() for one in scenarios]}

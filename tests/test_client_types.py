@@ -1,5 +1,5 @@
-"""The packages and the scripts beside them are typed, a program that uses the packages wrongly is told apart, and no
-name is idle."""
+"""The packages, the scripts beside them and what tests share are typed, a program that uses the packages wrongly is
+told apart, and no name is idle."""
 import ast
 import builtins
 import configparser
@@ -14,12 +14,20 @@ from common import ROOT, Case
 
 MYPY, FLAKE8 = shutil.which("mypy"), shutil.which("flake8")
 SOURCES = sorted((ROOT / "python/src").rglob("*.py"))
-SCRIPTS = sorted([ROOT / "python/build.py", *(ROOT / "bench").rglob("*.py"), *(ROOT / "tools/dev").glob("*.py")])
 TESTS = sorted((ROOT / "tests").rglob("*.py"))
+# What modules of tests share is typed as the scripts are.
+SHARED = [path for path in TESTS if path.parent == ROOT / "tests" and not path.name.startswith("test_")]
+SCRIPTS = sorted(
+    [ROOT / "python/build.py", *(ROOT / "bench").rglob("*.py"), *(ROOT / "tools/dev").glob("*.py"), *SHARED]
+)
 # Scripts of pages and their tests, and the package for R.
 OTHERS = sorted([*(ROOT / "python/src").rglob("*.mjs"), *(ROOT / "tests").rglob("*.mjs"), *(ROOT / "r").rglob("*.R")])
-# What is checked at once, seen from python/: two of the scripts are called build.
-AT_ONCE = (["src", "build.py", "../bench"], ["../tools/dev"])
+
+
+def checked_at_once(root):
+    """What is checked at once, seen from python/: two of the scripts are called build."""
+    shared = [f"../tests/{path.name}" for path in sorted((root / "tests").glob("*.py")) if path.name[:5] != "test_"]
+    return ["src", "build.py", "../bench", *shared], ["../tools/dev"]
 
 
 def functions_in(paths):
@@ -56,7 +64,7 @@ class Types(Case):
         return subprocess.run(line, cwd=cwd, capture_output=True, encoding="utf-8")
 
     def test_the_packages_and_the_scripts_have_their_types_and_keep_them(self):
-        for words in AT_ONCE:
+        for words in checked_at_once(ROOT):
             done = self.mypy(*words)
             self.assertEqual(done.returncode, 0, done.stdout + done.stderr)
 
@@ -65,7 +73,8 @@ class Types(Case):
         for name in ("python", "bench", "tools/dev"):
             shutil.copytree(ROOT / name, self.folder / name, ignore=shutil.ignore_patterns("__pycache__"))
         (self.folder / "tests").mkdir()
-        shutil.copy(ROOT / "tests/sheets.py", self.folder / "tests")
+        for path in SHARED:
+            shutil.copy(path, self.folder / "tests")
         rooms = sorted({path.relative_to(ROOT).parent for path in [*SOURCES, *SCRIPTS]})
         self.assertGreater(len(rooms), 13)
         for number, room in enumerate(rooms):
@@ -74,7 +83,9 @@ class Types(Case):
             with open(path, "a", encoding="utf-8") as file:
                 file.write("\n\ndef same(value):\n    return value\n")
         lines = [
-            line for words in AT_ONCE for line in self.mypy(*words, cwd=self.folder / "python").stdout.splitlines()
+            line
+            for words in checked_at_once(self.folder)
+            for line in self.mypy(*words, cwd=self.folder / "python").stdout.splitlines()
         ]
         found = [
             (self.folder / "python" / line.partition(":")[0]).resolve()

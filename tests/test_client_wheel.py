@@ -9,13 +9,13 @@ import sys
 import unittest
 import zipfile
 
-from common import CHAIN, PROGRAM, ROOT, Case, printed
+from common import CHAIN, PROGRAM, ROOT, Case, files_of, printed
 from test_client_install import OFFLINE, has_venv
 
 sys.path.insert(0, str(ROOT / "python"))
 import build  # noqa: E402
 
-FILES = ["--banks", CHAIN / "banks.csv", "--debts", CHAIN / "debts.csv"]
+FILES = files_of(CHAIN)
 
 
 def executable():
@@ -139,7 +139,7 @@ class Wheel(Case):
             done = run(place / "bin/clearing-breaking", *FILES, **more)
             self.assertEqual((done.returncode, done.stdout.decode()), (0, printed("breaking", *FILES)), done.stderr)
             # The checksum of the program is that of what was built.
-            code = "from clearing_client import find_program; from clearing_tools.evidence.parts import program_sum"
+            code = "from clearing_client import find_program; from clearing_tools.evidence.versions import program_sum"
             done = run(
                 place / "bin/python3", "-I", "-c", f"{code}; print(find_program()); print(program_sum())", **more
             )

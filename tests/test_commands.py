@@ -1,21 +1,18 @@
 """The files of bin/ are those of the one list of commands, and what stood in tools/ before still runs them and is
 named nowhere else."""
-import importlib.util
 import os
 import re
 import subprocess
 import sys
 import unittest
 
-from common import HUB, ROOT, Case, run_of
+from common import HUB, ROOT, Case, files_of, loaded, run_of
 
 sys.path.insert(0, str(ROOT / "python"))
 import build  # noqa: E402
 
-SPEC = importlib.util.spec_from_file_location("commands", ROOT / "tools/dev/commands.py")
-commands = importlib.util.module_from_spec(SPEC)
-SPEC.loader.exec_module(commands)
-FILES = ["--banks", HUB / "banks.csv", "--debts", HUB / "debts.csv"]
+commands = loaded(ROOT / "tools/dev/commands.py")
+FILES = files_of(HUB)
 # What speaks of the older places since that is its work.
 OF_BEFORE = {
     "CHANGELOG.md",
@@ -23,7 +20,7 @@ OF_BEFORE = {
     "tools/_moved.sh",
     "tools/dev/commands.py",
     "tests/test_commands.py",
-    "python/src/clearing_tools/evidence/parts.py",
+    "python/src/clearing_tools/evidence/layout.py",
 }
 
 

@@ -1,17 +1,21 @@
-"""The completions of the shells: which words they offer, and that no name is executed or altered."""
+"""The completions are those of the table of the command line, and that for bash offers the words that it should, and
+executes and alters no name."""
 import os
 import pty
 import subprocess
 import threading
 import time
+import unittest
 
-from common import ODD_NAMES, ROOT, Case, all_names, clearing
+from common import ROOT, Case, clearing, loaded, needs
+from odd_names import ODD_NAMES, all_names
 
+completions = loaded(ROOT / "tools/dev/completions.py")
 SCRIPT = ROOT / "tools/clearing.bash"
 ENVIRONMENT = {**os.environ, "LC_ALL": "C.UTF-8"}
 
 
-def completed(folder, line, word=None):
+def completed(folder, line, word=None, errors="strict"):
     """What the function offers for the end of a line."""
     script = f"""
         source "{SCRIPT}"
@@ -20,9 +24,10 @@ def completed(folder, line, word=None):
         printf '%s\\n' "${{COMPREPLY[@]}}"
     """
     run = ["bash", "--norc", "-c", script, "bash", line, line.split(" ")[-1] if word is None else word]
-    return subprocess.run(run, cwd=folder, env=ENVIRONMENT, capture_output=True, encoding="utf-8").stdout.split("\n")[
-        :-1
-    ]
+    done = subprocess.run(
+        run, cwd=folder, env=ENVIRONMENT, capture_output=True, encoding="utf-8", errors=errors, timeout=300
+    )
+    return done.stdout.split("\n")[:-1]
 
 
 def banks_of(names, end="\n"):
@@ -87,6 +92,7 @@ class Terminal:
         os.close(self.fd)
 
 
+@needs("bash")
 class Completion(Case):
     def words_of(self, line):
         """The words of a line as the shell takes them, where it expands nothing else."""
@@ -99,7 +105,7 @@ class Completion(Case):
         self.file("banks.csv", "name,cash,rule\nAster,1,order\nBank Two,2,order\n")
         self.assertEqual(
             completed(self.folder, "clearing c"),
-            ["check", "clear", "central", "compress", "costs", "cost-bounds", "convert"],
+            ["check", "clear", "central", "convert", "compress", "costs", "cost-bounds"],
         )
         self.assertEqual(
             completed(self.folder, "clearing cost-bounds --banks banks.csv --"), ["--debts", "--keep", "--limits"]
@@ -195,3 +201,43 @@ class Completion(Case):
                 if option not in words:
                     words = words + [option, value[option]]
             self.assertEqual(clearing(task, *words).returncode, 0 if task == "gen" else 3, words)
+
+    def test_the_files_are_those_of_the_table(self):
+        self.assertEqual(
+            [path.name for path, text in completions.texts().items() if path.read_text(encoding="utf-8") != text],
+            [],
+            "tools/dev/completions.py --write makes them so",
+        )
+
+
+@needs("bash")
+class HostileFiles(Case):
+    def names(self, content):
+        """What is offered for the name of a bank of a file, which may be no UTF-8."""
+        self.file("banks.csv", content)
+        line = "clearing rescue --banks banks.csv --debts d.csv --bank "
+        return completed(self.folder, line, errors="surrogateescape")
+
+    def test_of_eight_megabytes_a_part_is_looked_at(self):
+        for about, content in [
+            ("many banks", b"name,cash,rule\n" + b"".join(b"Bank%d,1,order\n" % n for n in range(450_000))),
+            ("one line", b"name,cash,rule\nA,1,order\n" + b"x" * 8_000_000),
+            ("commas", b"name,cash,rule\nA,1,order\n" + b"," * 8_000_000),
+            ("empty lines", b"name,cash,rule\n" + b"\n" * 8_000_000 + b"A,1,order\n"),
+            ("NUL", b"name,cash,rule\nA,1,order\n" + b"\0" * 8_000_000),
+        ]:
+            with self.subTest(about):
+                found = self.names(content)
+                self.assertTrue(found, about)
+                self.assertLessEqual(len(found), 10_000)
+
+    def test_what_is_no_utf_8_hides_no_other_name(self):
+        found = self.names(
+            b"name,cash,rule\nAlpha,1,order\nB\xffeta,1,order\nGamma,1,order\n\xc3\x28,1,order\nDelta,1,order\n"
+        )
+        for name in ("Alpha", "Gamma", "Delta"):
+            self.assertIn(name, found)
+
+
+if __name__ == "__main__":
+    unittest.main()

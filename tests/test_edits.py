@@ -1,18 +1,15 @@
 """The edits beside the gate are each tried, and each is told as what it is, with a toolchain that reads a function's
 body as its verdict."""
 import hashlib
-import importlib.util
 import os
 import re
 import subprocess
 import sys
 import time
 
-from common import ROOT, Case
+from common import ROOT, Case, loaded
 
-SPEC = importlib.util.spec_from_file_location("edits", ROOT / "tools/dev/edits.py")
-edits = importlib.util.module_from_spec(SPEC)
-SPEC.loader.exec_module(edits)
+edits = loaded(ROOT / "tools/dev/edits.py")
 
 # Refuses each function with the word `wrong`; those with `above` only where no other is refused, as a caller is hidden
 # by what it calls.

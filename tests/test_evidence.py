@@ -8,10 +8,10 @@ import subprocess
 import sys
 import time
 
-from common import HUB, PROGRAM, ROOT, clearing, needs
+from common import HUB, PROGRAM, ROOT, clearing, files_of, needs
 from evidences import SCENARIOS, SCRIPT, EvidenceCase, evidence
 
-from clearing_tools.evidence.parts import OLDER_README
+from clearing_tools.evidence.layout import OLDER_README
 
 TWELVE = ROOT / "examples/twelve-banks"
 
@@ -59,7 +59,7 @@ class Evidence(EvidenceCase):
     def test_a_text_of_what_was_changed_belongs_to_a_folder(self):
         text = self.file("said.txt", "Hub: cash 5 in place of 4.\n")
         folder = self.folder / "evidence"
-        words = ["--banks", HUB / "banks.csv", "--debts", HUB / "debts.csv"]
+        words = files_of(HUB)
         self.assertEqual(evidence("make", folder, *words, "--changes", text).returncode, 0)
         self.assertEqual((folder / "inputs/changes.txt").read_bytes(), text.read_bytes())
         done = evidence("check", folder)
@@ -398,10 +398,8 @@ class Evidence(EvidenceCase):
             ("stress", "echo x; exit 0", 1),
             ("rescue", "printf 'rescue,South,1\\nshort,1\\n\\n'", 1),
         ]:
-            program = self.file(
-                "program", f'#!/bin/sh\nif [ "$1" = {task} ]; then {lie}; else exec {shlex.quote(PROGRAM)} "$@"; fi\n'
-            )
-            program.chmod(0o755)
+            lines = f'if [ "$1" = {task} ]; then {lie}; else exec {shlex.quote(PROGRAM)} "$@"; fi\n'
+            program = self.executable("program", lines)
             more = ["--scenarios", self.file("s.toml", SCENARIOS), "--bank", "South"]
             done = evidence(*words, *more, program=str(program))
             self.assertEqual((done.returncode, done.stdout), (status, b""), done.stderr)
@@ -486,10 +484,8 @@ class Evidence(EvidenceCase):
     def test_an_interrupt_ends_at_once_and_leaves_nothing(self):
         place = self.folder / "place"
         place.mkdir()
-        program = self.file(
-            "program", f'#!/bin/sh\ncase $1 in clear) exec sleep 60;; esac\nexec {shlex.quote(PROGRAM)} "$@"\n'
-        )
-        program.chmod(0o755)
+        lines = f'case $1 in clear) exec sleep 60;; esac\nexec {shlex.quote(PROGRAM)} "$@"\n'
+        program = self.executable("program", lines)
         for number in (signal.SIGINT, signal.SIGTERM):
             running = subprocess.Popen(
                 [

@@ -12,7 +12,7 @@ import unittest.mock
 
 from common import PROGRAM, ROOT
 from clearing_tools.evidence.checking import FIRST, Checking
-from clearing_tools.evidence.parts import NoRoomError
+from clearing_tools.evidence.plain_files import NoRoomError
 from evidences import EvidenceCase, evidence
 
 ONE = """[[scenario]]
@@ -453,10 +453,7 @@ class Tampering(EvidenceCase):
             ("the folder", f"rm -f {folder}/more.txt {folder}/README.txt; mkfifo {folder}/README.txt"),
         ]:
             kept = shutil.copytree(folder, self.folder / "kept")
-            program = self.file(
-                "program", f'#!/bin/sh\n{{ {change}; }} 2>/dev/null\nexec {shlex.quote(PROGRAM)} "$@"\n'
-            )
-            program.chmod(0o755)
+            program = self.executable("program", f'{{ {change}; }} 2>/dev/null\nexec {shlex.quote(PROGRAM)} "$@"\n')
             done = evidence("check", folder, program=str(program), timeout=300)
             self.assertEqual(done.returncode, 4, done.stdout.decode())
             self.assertIn(f"{about}: changed while it was checked\nchecked: the folder has", done.stdout.decode())

@@ -4,7 +4,7 @@ import subprocess
 import sys
 import unittest.mock
 
-from common import PACKAGES, ROOT, Case, run_of
+from common import PACKAGES, ROOT, Case, files_of, run_of
 
 from clearing_tools import files  # noqa: E402
 from clearing_tools.runner import ToolError  # noqa: E402
@@ -105,7 +105,7 @@ class Files(Case):
                     self.assertEqual(said.read_text(), "" if stream == 1 else "said\n")
 
     def test_tools_write_to_a_stream_in_its_place(self):
-        network = ["--banks", ROOT / "examples/chain/banks.csv", "--debts", ROOT / "examples/chain/debts.csv"]
+        network = files_of(ROOT / "examples/chain")
         listed = self.file("list.csv", "debtor,creditor,amount\nA,B,5\n")
         table = self.file("table.csv", "name,cash,rule\nA,1,order\nB,2,equal\n")
         generated = ["--seed", 1, "--size", 4, "--tries", 9, "--debts", self.folder / "d.csv"]

@@ -9,9 +9,9 @@ import time
 import unittest
 
 import test_launcher
-from common import CHAIN, PACKAGES, PROGRAM, ROOT, run_of
+from common import CHAIN, PACKAGES, PROGRAM, ROOT, files_of, run_of
 
-FILES = ["--banks", CHAIN / "banks.csv", "--debts", CHAIN / "debts.csv"]
+FILES = files_of(CHAIN)
 WAYS = (
     "to have the program install the wheel of a release: pip install FILE.whl",
     "or build it in the repository: ./clearing, or this command with --build",

@@ -1,7 +1,6 @@
 """The gate and the packages that its tests want: with an apt-get that works, fails, hangs or lacks one, and a
 toolchain that only tells its calls."""
 import functools
-import importlib.util
 import os
 import pathlib
 import re
@@ -11,7 +10,7 @@ import subprocess
 import time
 import unittest.mock
 
-from common import ROOT, Case
+from common import ROOT, Case, loaded
 
 HERE = pathlib.Path(__file__).resolve().parent
 
@@ -249,10 +248,7 @@ class Gate(Machine):
 
     def gate(self):
         """The module of the script, of the small repository."""
-        spec = importlib.util.spec_from_file_location("gate", self.root / "tools/dev/gate.py")
-        gate = importlib.util.module_from_spec(spec)
-        spec.loader.exec_module(gate)
-        return gate
+        return loaded(self.root / "tools/dev/gate.py")
 
     def test_the_estimate_goes_by_the_work_that_is_left(self):
         gate = self.gate()

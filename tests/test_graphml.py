@@ -3,18 +3,21 @@ import subprocess
 import sys
 import xml.etree.ElementTree
 
-from common import ROOT, Case, clearing, needs_modules, python_with, tool
+from common import ROOT, Case, clearing, files_of, needs_modules, python_with, tool
 
-TWELVE = ["--banks", ROOT / "examples/twelve-banks/banks.csv", "--debts", ROOT / "examples/twelve-banks/debts.csv"]
+from clearing_tools.exports import graphml  # noqa: E402
+
+TWELVE = files_of(ROOT / "examples/twelve-banks")
 SPACE = "{http://graphml.graphdrawing.org/xmlns}"
+# With characters that XML cannot hold, with what stands for one, and with what is markup.
+BARRED = ["A\ufffeB", "A\uffff", "A<U+FFFE>B", "A<U+003C>U+FFFE>B", "<U+>", "A&<b>"]
 
 
 class Texts(Case):
     def test_without_networkx_it_is_said_which_python_was_asked(self):
         # A folder that a package has left behind is no module.
         (self.folder / "left/networkx").mkdir(parents=True)
-        script = self.file("python", f'#!/bin/sh\nPYTHONPATH="{self.folder}/left" exec "{sys.executable}" -S "$@"\n')
-        script.chmod(0o755)
+        script = self.executable("python", f'PYTHONPATH="{self.folder}/left" exec "{sys.executable}" -S "$@"\n')
         texts = [self.file(task, clearing(task, *TWELVE).stdout) for task in ("clear", "defaults")]
         done = tool("clearing-to-graphml", *texts, "--out", self.folder / "out", python=str(script))
         self.assertEqual((done.returncode, done.stdout), (2, ""))
@@ -151,3 +154,27 @@ class Graph(Case):
             self.assertEqual((done.returncode, done.stdout), (1, ""))
             self.assertIn("also read", done.stderr)
             self.assertEqual(text.read_bytes(), before)
+
+
+class Names(Case):
+    """Names with what XML cannot hold."""
+
+    def test_names_that_differ_stay_so(self):
+        self.assertEqual(len({graphml.xml_name(name) for name in BARRED}), len(BARRED))
+        for name in BARRED:
+            text = graphml.xml_name(name).replace("&", "&amp;").replace("<", "&lt;")
+            xml.etree.ElementTree.fromstring(f"<a>{text}</a>")
+
+    @needs_modules("networkx")
+    def test_a_graph_of_them_is_well_formed(self):
+        defaults = self.file(
+            "defaults.csv",
+            "bank,estate,paid,owed,equity,state\n"
+            + "".join(f"{name},1,0,0,1,sound\n" for name in BARRED)
+            + f"total,{len(BARRED)},0,0,{len(BARRED)},0\ncash,{len(BARRED)}\n",
+        )
+        payments, graph = self.file("payments.csv", "debtor,creditor,class,claim,paid\n"), self.folder / "g.graphml"
+        done = tool("clearing-to-graphml", payments, defaults, "--out", graph, python=python_with("networkx"))
+        self.assertEqual((done.returncode, done.stderr), (0, ""))
+        nodes = xml.etree.ElementTree.parse(graph).getroot().iter(f"{SPACE}node")
+        self.assertEqual([node.get("id") for node in nodes], [graphml.xml_name(name) for name in BARRED])

@@ -1,17 +1,14 @@
 """The picture of the packages is that of their imports as they are: no ring, and what is to stand alone does."""
-import importlib.util
 import sys
 import unittest
 
-from common import ROOT, Case, tool
+from common import ROOT, Case, loaded, tool
 
 sys.path.insert(0, str(ROOT / "python/src"))
 from clearing_tools.evidence import source  # noqa: E402
 from clearing_tools.imports import made_case  # noqa: E402
 
-SPEC = importlib.util.spec_from_file_location("imports", ROOT / "tools/dev/imports.py")
-imports = importlib.util.module_from_spec(SPEC)
-SPEC.loader.exec_module(imports)
+imports = loaded(ROOT / "tools/dev/imports.py")
 
 
 class Imports(Case):

@@ -16,8 +16,7 @@ class Install(Case):
 
     def program(self):
         """A program to install: a script that hands its words on."""
-        script = self.file("program", '#!/bin/sh\necho "$*"\n')
-        script.chmod(0o755)
+        script = self.executable("program", 'echo "$*"\n')
         return str(script)
 
     def test_program_tools_pages_and_completion_are_put_in_place(self):

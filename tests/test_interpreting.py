@@ -1,5 +1,4 @@
 """The table of docs/INTERPRETING.md: the program beside pro rata in real numbers, on three networks."""
-import importlib.util
 import os
 import pathlib
 import re
@@ -9,7 +8,7 @@ import sys
 import tempfile
 import unittest
 
-from common import PROGRAM, ROOT
+from common import PROGRAM, ROOT, loaded
 
 sys.path.insert(0, str(ROOT / "tests/system"))
 from model import Bank, Debt, Net, estate, least, share, state
@@ -43,10 +42,7 @@ def in_real_numbers(name, *words, end="greatest"):
 
 
 def real_module():
-    spec = importlib.util.spec_from_file_location("real", ROOT / "examples/pro-rata/real.py")
-    real = importlib.util.module_from_spec(spec)
-    spec.loader.exec_module(real)
-    return real
+    return loaded(ROOT / "examples/pro-rata/real.py")
 
 
 class RealNumbers(unittest.TestCase):

@@ -16,7 +16,7 @@ from clearing_tools import cases, cli, files, fullnames, money, texts
 from clearing_tools.checks import linter
 from clearing_tools.drawing import blocks
 from clearing_tools.drawing import network as drawing
-from clearing_tools.evidence import audit, parts
+from clearing_tools.evidence import audit, layout, parts
 from clearing_tools.exports import tidy
 from clearing_tools.report import original, page, player, stands
 from clearing_tools.report import parts as report_parts
@@ -50,7 +50,7 @@ class Tools(Case):
             debt = len(f"{name},{name},9" + f",{claim}" * amounts + "\n")
             self.assertLess(1_000 + MOST.debts * debt + MOST.banks * bank, files.MOST_BYTES, words)
             self.assertLess(
-                MOST.debts * debt, parts.most_of("as-is/payments.csv") if amounts == 2 else files.MOST_BYTES
+                MOST.debts * debt, layout.most_of("as-is/payments.csv") if amounts == 2 else files.MOST_BYTES
             )
         self.assertLess(max(MOST.bytes["banks"], MOST.bytes["debts"]), files.MOST_BYTES)
         # A journal, with the payments behind it.
@@ -58,7 +58,7 @@ class Tools(Case):
         self.assertLess(min(raised, MOST.bytes["journal"]) + MOST.debts * debt, tidy.MOST_BYTES)
 
     def test_what_is_too_long_for_an_evidence_is_refused_and_not_cut(self):
-        labels = self.file("l.csv", b"bank,short,full,group,country\n" + b"N1,,%b,,\n" % (b"x" * parts.MOST_OF_OTHERS))
+        labels = self.file("l.csv", b"bank,short,full,group,country\n" + b"N1,,%b,,\n" % (b"x" * layout.MOST_OF_OTHERS))
         words = [*self.files, "--changes", labels]
         done = subprocess.run([ROOT / "bin/clearing-evidence", "make", self.folder / "e", *words], capture_output=True)
         self.assertEqual((done.returncode, (self.folder / "e").exists()), (4, False))
@@ -111,7 +111,7 @@ class Tools(Case):
             commands = parts.commands_of([one], True, "A", by)
             self.assertEqual({" ".join(words) in " ".join(command) for _, command in commands}, {True})
             self.assertEqual(sum("--limits" in command for _, command in commands), len(commands) if words else 0)
-            self.assertEqual(parts.limits_of(parts.commands_text(commands)), by)
+            self.assertEqual(layout.limits_of(layout.commands_text(commands)), by)
 
     def test_a_case_that_was_described_by_wide_limits_is_read_by_them(self):
         net, wide = cc.Network(CHAIN / "banks.csv", CHAIN / "debts.csv"), ["--limits", "wide"]

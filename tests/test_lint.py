@@ -4,10 +4,11 @@ import random
 import sys
 import unittest
 
-from common import ROOT, Case, all_names, clearing, tool
+from common import ROOT, Case, clearing, tool
+from odd_names import all_names
 
 from clearing_client import limits  # noqa: E402
-from clearing_tools.checks import field_hints, lint, linter  # noqa: E402
+from clearing_tools.checks import field_hints, findings, lint, linter  # noqa: E402
 
 FILES = 1200
 NAMES = ["A", "B", "C", "Crédit Loire", "D 1", "x" * 64, "é" * 32, "order", "0", "\u00a0E"]
@@ -113,7 +114,7 @@ class Made:
         if pick.random() < 0.03:
             # About as many claims of the greatest size as all claims may come to.
             debts = [[*key, "1000000"] for key in pick.sample(keys, min(len(keys), pick.randint(10, 11)))]
-        tables = [[linter.BANKS_2 if two else linter.BANKS_1] + banks, [linter.DEBTS] + debts]
+        tables = [[findings.BANKS_2 if two else findings.BANKS_1] + banks, [findings.DEBTS] + debts]
         tables = [[list(record) for record in table] for table in tables]
         for _ in range(pick.choice([0, 0, 0, 1, 1, 2, 3])):
             self.change(pick.choice(tables))
@@ -343,7 +344,7 @@ class MadeJournal(Made):
     def file(self):
         pick = self.random
         debts = [line.split(",")[:3] for line in NETWORK["debts"].decode().splitlines()[1:]]
-        table = [list(linter.JOURNAL)]
+        table = [list(findings.JOURNAL)]
         for stamp in range(pick.randint(0, 8)):
             table.append([str(pick.choice([stamp, 0, 2**32 - 1])), *pick.choice(debts), self.number(10**6)])
         if pick.random() < 0.5:
@@ -505,15 +506,15 @@ class Lint(Case):
         for field in FIELDS:
             for table, place in [(table, place) for table in range(2) for place in range(4)]:
                 tables = [
-                    [linter.BANKS_2, ["A", "1", "order", "0"], ["B", "2", "adams", "1"]],
-                    [linter.DEBTS, ["A", "B", "1", "3"]],
+                    [findings.BANKS_2, ["A", "1", "order", "0"], ["B", "2", "adams", "1"]],
+                    [findings.DEBTS, ["A", "B", "1", "3"]],
                 ]
                 tables[table][1][place] = field
                 made.append(dict(zip(("banks", "debts"), map(quoted, tables))))
             for place in range(5):
                 raised = ["1", "A", "B", "1", "3"]
                 raised[place] = field
-                made.append({**NETWORK, "journal": quoted([linter.JOURNAL, raised])})
+                made.append({**NETWORK, "journal": quoted([findings.JOURNAL, raised])})
         self.compare_all(made)
 
     def test_files_at_the_limits_are_judged_as_the_program_does(self):

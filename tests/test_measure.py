@@ -21,6 +21,7 @@ import instructions  # noqa: E402
 import measure  # noqa: E402
 import scale  # noqa: E402
 import timing  # noqa: E402
+import wide_networks  # noqa: E402
 
 # A peer that is the program itself, as a compiler makes it that only writes scripts.
 RUSTC = """#!/bin/sh
@@ -254,7 +255,7 @@ class Measure(Case):
     def test_tables_of_the_wide_limits_have_each_network_and_task(self):
         """With small networks of the same names, since those have a million debts."""
         small = {
-            name: functools.partial(inputs.spread, 12, 4, lambda bank: bank, name.rpartition("-")[2])
+            name: functools.partial(wide_networks.spread, 12, 4, lambda bank: bank, name.rpartition("-")[2])
             for name in inputs.WIDE
         }
         options = argparse.Namespace(inputs=["tasks", "stress", "many", "workers"], runs=1, limit=60, beside=None)

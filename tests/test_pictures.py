@@ -5,17 +5,18 @@ import subprocess
 import sys
 import xml.etree.ElementTree as tree
 
-from common import ODD_NAMES, PROGRAM, ROOT, Case, clearing, needs_modules, python_with, run_of, tool
+from common import PROGRAM, ROOT, Case, clearing, files_of, needs_modules, python_with, run_of, tool
+from odd_names import ODD_NAMES
 
 from clearing_tools.drawing import lettering  # noqa: E402
 from clearing_tools.labels import shown  # noqa: E402
 from clearing_tools.drawing.shortfalls_picture import parts_owed  # noqa: E402
 from clearing_tools.texts import read_banks, read_outside, read_payments  # noqa: E402
 
-HUB = ["--banks", ROOT / "examples/hub/banks.csv", "--debts", ROOT / "examples/hub/debts.csv"]
-CHAIN = ["--banks", ROOT / "examples/chain/banks.csv", "--debts", ROOT / "examples/chain/debts.csv"]
-CORE = ["--banks", ROOT / "examples/core/banks.csv", "--debts", ROOT / "examples/core/debts.csv"]
-TWELVE = ["--banks", ROOT / "examples/twelve-banks/banks.csv", "--debts", ROOT / "examples/twelve-banks/debts.csv"]
+HUB = files_of(ROOT / "examples/hub")
+CHAIN = files_of(ROOT / "examples/chain")
+CORE = files_of(ROOT / "examples/core")
+TWELVE = files_of(ROOT / "examples/twelve-banks")
 SVG = "{http://www.w3.org/2000/svg}"
 
 

@@ -129,8 +129,7 @@ class Records(Case):
             f"*wide*) ;; *) {true} 2>told; s=$?; sed '{row}' told >&2; exit $s",
         ):
             with self.subTest(lie=lie):
-                program = self.file("liar", f'#!/bin/sh\ncase "$*" in {lie} ;; esac\nexec "$0.true" "$@"\n')
-                program.chmod(0o755)
+                program = self.executable("liar", f'case "$*" in {lie} ;; esac\nexec "$0.true" "$@"\n')
                 shutil.copy(self.program, f"{program}.true")
                 status, last = self.ran("compare.sh", "--wide", "1", "12", program=str(program))
                 self.assertEqual((status, last.split(", ")[2]), (1, "1 networks differ"))

@@ -9,7 +9,7 @@ import sys
 import tempfile
 import unittest
 
-from common import PROGRAM, ROOT, Case, needs
+from common import PROGRAM, ROOT, Case, files_of, needs
 from test_r_package import ALONE
 
 sys.path.insert(0, str(ROOT / "python"))
@@ -18,10 +18,6 @@ import build  # noqa: E402
 LACKS = [name for name in ("pandoc", "dpkg-deb", "git", "Rscript") if not shutil.which(name)]
 if not LACKS and subprocess.run(["Rscript", "-e", "library(knitr)"], capture_output=True).returncode:
     LACKS.append("R's package knitr")
-TASKS = sorted(
-    """check clear central defaults stress outcomes replay bounds rescue rescues breaking impact compress costs
-    cost-bounds convert gen""".split()
-)
 
 
 def ran(*words, **more):
@@ -42,58 +38,6 @@ class Version(unittest.TestCase):
         self.assertIn("No licence has been chosen", (ROOT / "README.md").read_text(encoding="utf-8"))
         self.assertNotIn("\nlicense", (ROOT / "CITATION.cff").read_text(encoding="utf-8"))
         self.assertEqual([path.name for path in ROOT.glob("*") if re.match(r"(?i)licen[cs]e|copying", path.name)], [])
-
-
-class Completions(Case):
-    def test_each_has_the_tasks_of_the_program(self):
-        fish = (ROOT / "tools/clearing.fish").read_text(encoding="utf-8")
-        self.assertEqual(sorted(re.search(r"^set -l tasks (.*)$", fish, re.MULTILINE)[1].split()), TASKS)
-        zsh = (ROOT / "tools/clearing.zsh").read_text(encoding="utf-8")
-        self.assertEqual(sorted(re.findall(r"^        '([\w-]+):", zsh, re.MULTILINE)), TASKS)
-
-    @unittest.skipUnless(shutil.which("fish"), "fish is missing")
-    def test_fish_completes_words(self):
-        self.file("banks.csv", "name,cash,rule\nAster,1,order\n")
-
-        def offered(line):
-            done = ran(
-                "fish",
-                "--no-config",
-                "-c",
-                f"source {ROOT}/tools/clearing.fish; complete -C '{line}'",
-                cwd=self.folder,
-                env={**os.environ, "HOME": str(self.folder)},
-            )
-            return [word.split("\t")[0] for word in done.stdout.splitlines()]
-
-        self.assertEqual(
-            sorted(offered("clearing c")), ["central", "check", "clear", "compress", "convert", "cost-bounds", "costs"]
-        )
-        self.assertEqual(offered("clearing clear --show b"), ["both"])
-        self.assertEqual(sorted(offered("clearing costs --")), ["--banks", "--debts", "--keep", "--limits"])
-        self.assertEqual(sorted(offered("clearing cost-bounds --")), ["--banks", "--debts", "--keep", "--limits"])
-        self.assertEqual(sorted(offered("clearing outcomes --")), ["--banks", "--debts", "--limits", "--scenarios"])
-        self.assertEqual(sorted(offered("clearing gen --")), ["--seed", "--size", "--sweeps", "--tries", "--workers"])
-        self.assertEqual(offered("clearing rescue --banks banks.csv --bank A"), ["Aster"])
-
-    @unittest.skipUnless(shutil.which("zsh"), "zsh is missing")
-    def test_zsh_reads_its_completion(self):
-        done = ran("zsh", "-n", ROOT / "tools/clearing.zsh")
-        self.assertEqual((done.returncode, done.stderr), (0, ""))
-        # A terminal of its own, in which a tab is pressed.
-        script = f"""
-            zmodload zsh/zpty; cd {self.folder}; zpty z zsh -f -i
-            zpty -w z "PS1=; fpath=({self.folder} \\$fpath); autoload -U compinit"
-            zpty -w z "compinit -u -d {self.folder}/dump; echo REA''DY"
-            zpty -r -m z begun '*READY*'; zpty -w -n z $'clearing comp\\t'
-            for try in {{1..50}}; do
-                sleep 0.1; while zpty -r -t z more; do out+=$more; done
-                [[ $out == *compress* ]] && break
-            done
-            print -r -- $out
-        """
-        shutil.copy(ROOT / "tools/clearing.zsh", self.folder / "_clearing")
-        self.assertIn("clearing compress", ran("zsh", "-f", "-c", script, timeout=60).stdout)
 
 
 @unittest.skipIf(LACKS, f"{', '.join(LACKS)} missing")
@@ -151,7 +95,7 @@ class Release(Case):
         return [folder / name for name in names]
 
     def clears(self, program):
-        files = ["--banks", ROOT / "examples/chain/banks.csv", "--debts", ROOT / "examples/chain/debts.csv"]
+        files = files_of(ROOT / "examples/chain")
         done = ran(program, "clear", *files)
         self.assertEqual((done.returncode, done.stdout.split()[1:]), (0, ["A,B,1,10,7", "B,C,1,9,8"]))
 

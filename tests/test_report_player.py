@@ -11,7 +11,7 @@ class Player(InTheBrowser):
         self.open(files)
         debts = rows_of("clear", files)
         key = {tuple(debt[:3]): at for at, debt in enumerate(debts)}
-        final = self.expected_flows([(debt[:4], int(debt[4])) for debt in debts], None, {})
+        final = self.expected_flows([(debt[:4], int(debt[4])) for debt in debts], {})
         self.assert_flows(final)
         raises = [row for row in rows_of("clear", files, "--show", "journal", "--workers", "1") if row[0] != "rounds"]
         cash = {
@@ -23,11 +23,11 @@ class Player(InTheBrowser):
         self.click("first")
         self.run_of("Emulation.setEmulatedMedia", features=[{"name": "prefers-reduced-motion", "value": "reduce"}])
         paid = [0] * len(debts)
-        self.assert_flows(self.expected_flows([(debt[:4], 0) for debt in debts], None, {}))
+        self.assert_flows(self.expected_flows([(debt[:4], 0) for debt in debts], {}))
         for at, (stamp, debtor, creditor, rank, to) in enumerate(raises, 1):
             self.click("next")
             paid[key[debtor, creditor, rank]] = int(to)
-            self.assert_flows(self.expected_flows([(debt[:4], sum_) for debt, sum_ in zip(debts, paid)], None, {}))
+            self.assert_flows(self.expected_flows([(debt[:4], sum_) for debt, sum_ in zip(debts, paid)], {}))
             said, line = self.js(
                 "return ['raise', 'line'].map(key =>"
                 " document.getElementById(key).textContent.replace(/[\\u2068\\u2069]/g, ''))"
@@ -86,7 +86,7 @@ class Player(InTheBrowser):
         )
         self.assertEqual(self.js("return +document.getElementById('step').value"), 49)
         self.assert_flows(
-            self.expected_flows([(debt[:4], int(debt[4])) for debt in rows_of("clear", files_of(TWELVE))], None, {})
+            self.expected_flows([(debt[:4], int(debt[4])) for debt in rows_of("clear", files_of(TWELVE))], {})
         )
 
     def test_the_matrix_plays_too(self):

@@ -91,7 +91,7 @@ class Tables(InTheBrowser):
         self.assertEqual({name: cells[0] for name, cells in rows.items()}, states)
         outside = {cells[0]: (owed, int(cells[2])) for cells, owed in zip(rows_of("defaults", files), (9, 4, 5, 0))}
         self.assert_flows(
-            self.expected_flows([(debt[:4], int(debt[4])) for debt in rows_of("clear", files)], None, outside)
+            self.expected_flows([(debt[:4], int(debt[4])) for debt in rows_of("clear", files)], outside)
         )
         # A file of the page has what is owed and paid outside apart.
         text = self.js("return JSON.parse(document.getElementById('data').textContent).files.banks").split("\n")

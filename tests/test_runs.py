@@ -1,16 +1,13 @@
 """The table of what was run is made from docs/runs.tsv, and stands so in docs/PROVED.md."""
-import importlib.util
 import re
 import shutil
 import subprocess
 import sys
 import unittest
 
-from common import ROOT, Case, tool
+from common import ROOT, Case, loaded, tool
 
-SPEC = importlib.util.spec_from_file_location("runs", ROOT / "tools/dev/runs.py")
-runs = importlib.util.module_from_spec(SPEC)
-SPEC.loader.exec_module(runs)
+runs = loaded(ROOT / "tools/dev/runs.py")
 HEAD = "\t".join(runs.HEADER) + "\n"
 COMMIT = "abcdef0123" * 4
 

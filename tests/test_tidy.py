@@ -7,13 +7,13 @@ import sys
 import tempfile
 from decimal import Decimal
 
-from common import ROOT, Case, clearing, tool
+from common import ROOT, Case, clearing, files_of, tool
 
 from clearing_tools import stress_text, texts
 from clearing_tools.runner import ToolError
 
-HUB = ["--banks", ROOT / "examples/hub/banks.csv", "--debts", ROOT / "examples/hub/debts.csv"]
-CHAIN = ["--banks", ROOT / "examples/chain/banks.csv", "--debts", ROOT / "examples/chain/debts.csv"]
+HUB = files_of(ROOT / "examples/hub")
+CHAIN = files_of(ROOT / "examples/chain")
 SCENARIOS = '[[scenario]]\nname = " half "\ncut = 500\n\n[[scenario]]\nname = " half "\n'
 
 

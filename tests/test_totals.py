@@ -23,8 +23,7 @@ class Words(Case):
     def test_without_numpy_it_is_said_which_python_was_asked(self):
         # A folder that a package has left behind is no module.
         (self.folder / "left/numpy").mkdir(parents=True)
-        script = self.file("python", f'#!/bin/sh\nPYTHONPATH="{self.folder}/left" exec "{sys.executable}" -S "$@"\n')
-        script.chmod(0o755)
+        script = self.executable("python", f'PYTHONPATH="{self.folder}/left" exec "{sys.executable}" -S "$@"\n')
         done = tool("clearing-from-totals", self.file("t.csv", TABLE), "--out", self.folder / "out", python=str(script))
         self.assertEqual((done.returncode, done.stdout), (2, ""))
         self.assertRegex(

@@ -24,7 +24,7 @@ ALONE = {
     },
     r"get_exec_path\(": {"program.py: on_path", "finding.py: on_path"},
     # Of bytes that are there the module is called at once.
-    r"hashlib\.sha256\(\)": {"finding.py: digest_of", "case.py: hash_in", "parts.py: checksum_of"},
+    r"hashlib\.sha256\(\)": {"finding.py: digest_of", "case.py: hash_in", "plain_files.py: checksum_of"},
     r"& 0o044|& 0o040": {"files.py: mask_of"},
 }
 

@@ -6,7 +6,8 @@ import re
 import subprocess
 import sys
 
-from common import ODD_NAMES, PROGRAM, ROOT, Case, all_names, needs_checkout, tool
+from common import PROGRAM, ROOT, Case, needs_checkout, tool
+from odd_names import ODD_NAMES, all_names
 
 from clearing_tools.checks import why  # noqa: E402
 
@@ -113,7 +114,7 @@ class MadeLines:
     def words(self):
         pick = self.random
         task = pick.choice(list(why.TASKS))
-        required, allowed = why.TASKS[task]
+        _, required, allowed = why.TASKS[task]
         names = required + [name for name in allowed if pick.random() < 0.4]
         parts = [[task]]
         for name in names:
@@ -167,8 +168,8 @@ class Why(Case):
     def test_each_value_of_each_option_is_judged_as_the_program_does(self):
         lines = []
         for option in why.OPTIONS:
-            task = next(task for task, uses in why.TASKS.items() if option in uses[0] + uses[1])
-            others = [f"--{name}={GOOD.get(name, 'none.csv')}" for name in why.TASKS[task][0] if name != option]
+            task = next(task for task, uses in why.TASKS.items() if option in uses.options)
+            others = [f"--{name}={GOOD.get(name, 'none.csv')}" for name in why.TASKS[task].required if name != option]
             for value in VALUES:
                 lines += [
                     [task, *others, f"--{option}={value}"],
@@ -179,7 +180,7 @@ class Why(Case):
 
     def test_each_option_of_each_task_is_judged_as_the_program_does(self):
         lines = [[]]
-        for task, (required, allowed) in why.TASKS.items():
+        for task, (_, required, _) in why.TASKS.items():
             whole = [f"--{name}={GOOD.get(name, 'none.csv')}" for name in required]
             lines += [[task, *whole], [*whole], *([task, *whole[:at], *whole[at + 1 :]] for at in range(len(whole)))]
             lines += [
@@ -205,7 +206,7 @@ class Why(Case):
             allowed = ["workers", "sweeps"] if "on_workers" in body else []
             required += re.findall(r"(\w+): Use::Required", body)
             allowed += re.findall(r"(\w+): Use::Allowed", body) + (["limits"] if "both_files" in body else [])
-            self.assertEqual((required, allowed), why.TASKS[word], word)
+            self.assertEqual((required, allowed), why.TASKS[word][1:], word)
 
     def test_faults_have_their_word_and_a_hint(self):
         for line, lines in [

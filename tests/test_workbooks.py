@@ -7,7 +7,7 @@ import subprocess
 import sys
 import zipfile
 
-from common import ROOT, Case, needs, needs_modules, python_with, tool
+from common import ROOT, Case, files_of, needs, needs_modules, python_with, tool
 
 PYTHON = python_with("openpyxl") or sys.executable
 BANKS = "name,cash,rule\nA,3,webster\nB,4,webster\nC,5,webster\n"
@@ -282,8 +282,7 @@ class Workbooks(Case):
 
     def test_without_openpyxl_the_package_is_named(self):
         book = written(self.folder / "m.xlsx", {"S": MATRIX})
-        script = self.file("python", f'#!/bin/sh\nexec "{sys.executable}" -S "$@"\n')
-        script.chmod(0o755)
+        script = self.executable("python", f'exec "{sys.executable}" -S "$@"\n')
         done = tool("clearing-from-matrix", book, *self.files, python=str(script))
         self.assertEqual((done.returncode, done.stdout), (2, ""))
         self.assertRegex(
@@ -296,7 +295,7 @@ class Workbooks(Case):
 class Made(Case):
     """Workbooks that the tools write."""
 
-    HUB = ["--banks", ROOT / "examples/hub/banks.csv", "--debts", ROOT / "examples/hub/debts.csv"]
+    HUB = files_of(ROOT / "examples/hub")
 
     def sheets(self, path):
         """The sheets of a workbook by their titles: what stands in the pane that is frozen, and the rows, each cell its
@@ -378,8 +377,7 @@ class Made(Case):
             )
 
     def test_without_openpyxl_nothing_is_written(self):
-        script = self.file("python", f'#!/bin/sh\nexec "{sys.executable}" -S "$@"\n')
-        script.chmod(0o755)
+        script = self.executable("python", f'exec "{sys.executable}" -S "$@"\n')
         text = self.file("d.csv", self.printed("defaults", *self.HUB))
         done = tool("clearing-tidy", text, "--out", self.folder / "d.xlsx", python=str(script))
         self.assertEqual((done.returncode, done.stdout), (2, ""))

@@ -3,19 +3,52 @@
 #
 # What stands in a file is data: names of banks are compared and quoted, and never expanded.
 
+# Made by tools/dev/completions.py.
+_clearing_tasks="check clear central defaults stress replay gen convert bounds rescue compress costs breaking impact rescues outcomes cost-bounds"
+
 _clearing_options() { # the task
     case $1 in
-    check | convert | central | compress | breaking | impact | rescues) echo "--banks --debts --limits" ;;
+    check | central | convert | compress | breaking | impact | rescues) echo "--banks --debts --limits" ;;
     clear) echo "--banks --debts --workers --sweeps --show --limits" ;;
     defaults | bounds) echo "--banks --debts --workers --sweeps --limits" ;;
     stress) echo "--banks --debts --scenarios --workers --sweeps --limits" ;;
-    outcomes) echo "--banks --debts --scenarios --limits" ;;
     replay) echo "--banks --debts --journal --limits" ;;
+    gen) echo "--workers --sweeps --seed --size --tries" ;;
     rescue) echo "--banks --debts --bank --workers --sweeps --limits" ;;
     costs | cost-bounds) echo "--banks --debts --keep --limits" ;;
-    gen) echo "--seed --size --tries --workers --sweeps" ;;
+    outcomes) echo "--banks --debts --scenarios --limits" ;;
     esac
 }
+
+# What the value of an option is: a file, a bank, a number, or one of the words.
+_clearing_kind() { # the option
+    case $1 in
+    --banks | --debts | --scenarios | --journal) echo "file" ;;
+    --bank) echo "bank" ;;
+    --workers | --sweeps | --seed | --size | --tries | --keep) echo "number" ;;
+    --show) echo "payments journal both" ;;
+    --limits) echo "standard wide" ;;
+    esac
+}
+
+# The names of banks, a line each.
+_clearing_banks() { # the file
+    head -c 167772160 -- "$1" | LC_ALL=C tr -d '\0' | LC_ALL=C tr '\r' '\n' | LC_ALL=C awk '
+        NR == 1 { sub(/^\357\273\277/, "") }
+        $0 == "" { next }
+        !header { header = 1; next }
+        {
+            comma = index($0, ",")
+            name = comma ? substr($0, 1, comma - 1) : $0
+            if (length(name) > 1000) next
+            gsub(/^[ \t]+|[ \t]+$/, "", name)
+            if (name ~ /^".*"$/) name = substr(name, 2, length(name) - 2)
+            if (name == "" || name ~ /^-/ || name ~ /[\001-\037\177]|\302[\200-\237]/) next
+            print name
+            if (++count == 10000) exit
+        }'
+}
+# End of what was made.
 
 # The words of a part of a line as the shell would take them, without expanding anything, into the list `words`; the last one
 # as it is typed into `typed`, and the quote that it is within, or nothing, into `quote`.
@@ -66,22 +99,7 @@ _clearing_names() { # the file
     '~/'*) file=$HOME/${file:2} ;;
     esac
     [[ -f $file && -r $file ]] || return
-    # By bytes, as a name may be no UTF-8, and no more than there may be banks. The header is the first record with a byte, a byte order
-    # mark apart.
-    mapfile -t names < <(head -c 167772160 -- "$file" | LC_ALL=C tr -d '\0' | LC_ALL=C tr '\r' '\n' | LC_ALL=C awk '
-        NR == 1 { sub(/^\357\273\277/, "") }
-        $0 == "" { next }
-        !header { header = 1; next }
-        {
-            comma = index($0, ",")
-            name = comma ? substr($0, 1, comma - 1) : $0
-            if (length(name) > 1000) next
-            gsub(/^[ \t]+|[ \t]+$/, "", name)
-            if (name ~ /^".*"$/) name = substr(name, 2, length(name) - 2)
-            if (name == "" || name ~ /^-/ || name ~ /[\001-\037\177]|\302[\200-\237]/) next
-            print name
-            if (++count == 10000) exit
-        }')
+    mapfile -t names < <(_clearing_banks "$file")
 }
 
 # The names that begin with what is typed so far become replies, each quoted as the rest of the word has to be.
@@ -120,7 +138,6 @@ _clearing_value() { # the option
 }
 
 _clearing() {
-    local tasks="check clear central defaults stress outcomes replay bounds rescue rescues breaking impact compress costs cost-bounds convert gen"
     local words typed quote all names task= given option at IFS=$' \t\n'
     _clearing_words "$COMP_LINE"
     all=("${words[@]}")
@@ -129,7 +146,7 @@ _clearing() {
     local word=${words[last]} before=
     ((last > 0)) && before=${words[last - 1]}
     for given in "${words[@]:1:last-1}"; do
-        [[ $given != *[!a-z-]* && " $tasks " == *" $given "* ]] && task=$given
+        [[ $given != *[!a-z-]* && " $_clearing_tasks " == *" $given "* ]] && task=$given
     done
     # Of `--banks=FILE` the shell completes what stands after the sign, as of any word with one.
     local head=${typed%"$text"}
@@ -140,24 +157,24 @@ _clearing() {
     ?) head=${head#"$quote"} ;;
     esac
     COMPREPLY=()
-    case $before in
-    --banks | --debts | --scenarios | --journal)
+    local kind=$(_clearing_kind "$before")
+    case $kind in
+    file)
         compopt -o filenames 2>/dev/null
         mapfile -t COMPREPLY < <(compgen -f -- "$word")
         ;;
-    --show) mapfile -t COMPREPLY < <(compgen -W "payments journal both" -- "$word") ;;
-    --limits) mapfile -t COMPREPLY < <(compgen -W "standard wide" -- "$word") ;;
-    --bank)
+    bank)
         _clearing_names "$(_clearing_value --banks)"
         local typed_quote=$quote
         _clearing_words "$head"
         quote=$typed_quote
         _clearing_reply "$word" "${words[${#words[@]} - 1]}"
         ;;
-    --workers | --sweeps | --seed | --size | --tries | --keep) ;;
+    number) ;;
+    ?*) mapfile -t COMPREPLY < <(compgen -W "$kind" -- "$word") ;;
     *)
         if [[ -z $task ]]; then
-            mapfile -t COMPREPLY < <(compgen -W "$tasks" -- "$word")
+            mapfile -t COMPREPLY < <(compgen -W "$_clearing_tasks" -- "$word")
         else
             local left=()
             for option in $(_clearing_options "$task"); do

@@ -1,10 +1,10 @@
-# Completion of the command `clearing` for fish. tools/dev/release.sh puts it into the package; `source tools/clearing.fish` tries it.
+# Completion of the command `clearing` for fish. tools/install.sh puts it in place; `source tools/clearing.fish` tries it.
 complete -c clearing -f
 
 function __clearing_task
     set -l words (commandline -opc)
     for word in $words[2..-1]
-        if contains -- $word check clear central defaults stress outcomes replay bounds rescue rescues breaking impact compress costs cost-bounds convert gen
+        if contains -- $word (__clearing_tasks)
             echo $word
             return 0
         end
@@ -17,14 +17,25 @@ function __clearing_task_in
     contains -- (__clearing_task) $argv
 end
 
-# The names of the banks in the file that `--banks` names. What stands there is data: it is read by bytes, no more than there may be.
+# The names of the banks in the file that `--banks` names. What stands there is data.
 function __clearing_banks
     set -l words (commandline -opc)
     set -l at (contains -i -- --banks $words)
     or return
     set -l file $words[(math $at + 1)]
     test -f "$file" -a -r "$file"
-    and head -c 167772160 -- $file | env LC_ALL=C tr -d '\\0' | env LC_ALL=C tr '\\r' '\\n' | env LC_ALL=C awk '
+    and __clearing_banks_of $file
+end
+
+complete -c clearing -n 'not __clearing_task' -a "(__clearing_tasks)"
+# Made by tools/dev/completions.py.
+function __clearing_tasks
+    printf '%s\n' check clear central defaults stress replay gen convert bounds rescue compress costs breaking impact rescues outcomes cost-bounds
+end
+
+# The names of banks, a line each.
+function __clearing_banks_of # the file
+    head -c 167772160 -- $argv[1] | env LC_ALL=C tr -d '\\0' | env LC_ALL=C tr '\\r' '\\n' | env LC_ALL=C awk '
         NR == 1 { sub(/^\\357\\273\\277/, "") }
         $0 == "" { next }
         !header { header = 1; next }
@@ -40,19 +51,17 @@ function __clearing_banks
         }'
 end
 
-set -l tasks check clear central defaults stress outcomes replay bounds rescue rescues breaking impact compress costs cost-bounds convert gen
-complete -c clearing -n 'not __clearing_task' -a "$tasks"
-set -l workers clear defaults bounds stress rescue gen
-complete -c clearing -n 'not __clearing_task_in gen; and __clearing_task' -l banks -r -F -d 'the banks file'
-complete -c clearing -n 'not __clearing_task_in gen; and __clearing_task' -l debts -r -F -d 'the debts file'
+complete -c clearing -n '__clearing_task_in check clear central defaults stress replay convert bounds rescue compress costs breaking impact rescues outcomes cost-bounds' -l banks -r -F -d 'the banks file'
+complete -c clearing -n '__clearing_task_in check clear central defaults stress replay convert bounds rescue compress costs breaking impact rescues outcomes cost-bounds' -l debts -r -F -d 'the debts file'
 complete -c clearing -n '__clearing_task_in stress outcomes' -l scenarios -r -F -d 'the scenarios, in TOML'
 complete -c clearing -n '__clearing_task_in replay' -l journal -r -F -d 'the journal'
 complete -c clearing -n '__clearing_task_in rescue' -l bank -x -a '(__clearing_banks)' -d 'the bank to be saved'
-complete -c clearing -n "__clearing_task_in $workers" -l workers -x -d '1 to 64'
-complete -c clearing -n "__clearing_task_in $workers" -l sweeps -x -d '1 to 1000'
-complete -c clearing -n '__clearing_task_in clear' -l show -x -a 'payments journal both'
-complete -c clearing -n 'not __clearing_task_in gen; and __clearing_task' -l limits -x -a 'standard wide' -d 'the limits of the network'
-complete -c clearing -n '__clearing_task_in costs cost-bounds' -l keep -x -d '0 to 1000 per mille'
+complete -c clearing -n '__clearing_task_in clear defaults stress gen bounds rescue' -l workers -x -d '1 to 64'
+complete -c clearing -n '__clearing_task_in clear defaults stress gen bounds rescue' -l sweeps -x -d '1 to 1000'
+complete -c clearing -n '__clearing_task_in clear' -l show -x -a 'payments journal both' -d 'what is printed'
 complete -c clearing -n '__clearing_task_in gen' -l seed -x -d 'the number'
 complete -c clearing -n '__clearing_task_in gen' -l size -x -d '1 to 1000 banks'
 complete -c clearing -n '__clearing_task_in gen' -l tries -x -d '0 to 20000 tries at a debt'
+complete -c clearing -n '__clearing_task_in costs cost-bounds' -l keep -x -d '0 to 1000 per mille'
+complete -c clearing -n '__clearing_task_in check clear central defaults stress replay convert bounds rescue compress costs breaking impact rescues outcomes cost-bounds' -l limits -x -a 'standard wide' -d 'the limits of the network'
+# End of what was made.

@@ -53,10 +53,15 @@ shown() {
     printf '%s' "$1" | tr '\n' '?' | LC_ALL=C sed 's/[\x01-\x1f\x7f]/?/g; s/\xc2[\x80-\x9f]/?/g; s/\xe2\x80[\x8b-\x8f\xa8-\xae]/?/g; s/\xe2\x81[\xa0-\xaf]/?/g'
 }
 
+# Leaves each place as it was.
 undo() {
     while IFS= read -r to; do
         rm -f -- "$to$new"
-        if [ -e "$to$old" ]; then mv -fT -- "$to$old" "$to"; elif [ -e "$list/moved" ] && grep -qxF -- "$to" "$list/moved"; then rm -f -- "$to"; fi
+        if [ -e "$to$old" ]; then
+            mv -fT -- "$to$old" "$to"
+        elif [ -e "$list/moved" ] && grep -qxF -- "$to" "$list/moved"; then
+            rm -f -- "$to"
+        fi
     done <"$list/places"
 }
 

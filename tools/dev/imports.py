@@ -25,17 +25,24 @@ ALONE: Dict[str, Set[str]] = {
     EVIDENCE + "bounds": set(),
     EVIDENCE + "confined": set(),
     EVIDENCE + "shock": {EVIDENCE + "audit", EVIDENCE + "bounds", "clearing_tools.files", "clearing_tools.runner"},
-    EVIDENCE + "parts": {EVIDENCE + "audit", EVIDENCE + "shock", "clearing_tools.runner"},
-    EVIDENCE + "source": {EVIDENCE + "confined", EVIDENCE + "parts", "clearing_tools.runner"},
-    EVIDENCE + "checking": {EVIDENCE + each for each in ("audit", "parts", "shock", "source")}
+    EVIDENCE + "layout": {EVIDENCE + "audit", "clearing_tools.runner"},
+    EVIDENCE + "plain_files": {EVIDENCE + "audit", EVIDENCE + "layout", "clearing_tools.runner"},
+    EVIDENCE + "parts": {EVIDENCE + each for each in ("audit", "layout", "shock")} | {"clearing_tools.runner"},
+    EVIDENCE + "source": {EVIDENCE + "confined", EVIDENCE + "layout", "clearing_tools.runner"},
+    EVIDENCE + "checking": {
+        EVIDENCE + each for each in ("audit", "layout", "parts", "plain_files", "shock", "source", "versions")
+    }
     | {"clearing_tools.runner"},
-    EVIDENCE + "versions": {EVIDENCE + "parts", "clearing_tools.runner"},
+    EVIDENCE + "versions": {EVIDENCE + "audit", "clearing_tools.runner"},
     EVIDENCE + "evidence": {EVIDENCE + each for each in ("audit", "checking", "making")} | {"clearing_tools.runner"},
     # What makes an evidence reads a case as all tools read it; what checks one does not.
-    EVIDENCE + "making": {EVIDENCE + each for each in ("audit", "parts", "shock", "source", "versions")}
-    | {"clearing_tools.cases", "clearing_tools.files", "clearing_tools.runner"}
+    EVIDENCE + "making": {
+        EVIDENCE + each for each in ("audit", "layout", "parts", "plain_files", "shock", "source", "versions")
+    }
+    | {"clearing_tools.cases", "clearing_tools.files", "clearing_tools.runner", "clearing_tools.way"}
     | {"clearing_client.case", "clearing_client.errors"},
-    "clearing_tools.files": {"clearing_tools.runner"},
+    "clearing_tools.files": {"clearing_tools.runner", "clearing_tools.way"},
+    "clearing_tools.way": {"clearing_tools.runner"},
     "clearing_tools.runner": {"clearing_tools.finding", "clearing_tools.running", "clearing_tools.saying"},
     "clearing_tools.running": {"clearing_tools.finding", "clearing_tools.saying"},
     "clearing_tools.finding": {"clearing_tools.saying"},

@@ -39,6 +39,22 @@ fail() {
     exit "${2:-1}"
 }
 
+# A text of tools/dev/release, in which each @NAME@ is the value that is given for it.
+texts=$root/tools/dev/release
+fill() { # the text, NAME=VALUE...
+    text=$texts/$1
+    shift
+    env "$@" awk '{
+        while (match($0, /@[A-Z]+@/)) {
+            name = substr($0, RSTART + 1, RLENGTH - 2)
+            if (!(name in ENVIRON)) exit 1
+            printf "%s%s", substr($0, 1, RSTART - 1), ENVIRON[name]
+            $0 = substr($0, RSTART + RLENGTH)
+        }
+        print
+    }' "$text"
+}
+
 draft=
 gate=
 folder=
@@ -120,20 +136,9 @@ cp "$root/tools/clearing.zsh" "$stage/share/zsh/vendor-completions/_clearing" ||
 cp "$root/tools/clearing.fish" "$stage/share/fish/vendor_completions.d/clearing.fish" || exit 1
 
 # The documents for users, as HTML: links between them stay, and links to files of the repository become words.
-cat >"$work/links.lua" <<'LUA'
-function Link(link)
-  local page, anchor = link.target:match("^([%w-]+)%.md(#?.*)$")
-  if page and PAGES[page] then
-    link.target = page:lower() .. ".html" .. anchor
-  elseif not link.target:match("^%a+:") and not link.target:match("^#") then
-    return link.content
-  end
-  return link
-end
-LUA
 pages="GUIDE DATA INTERPRETING PYTHON GLOSSARY FORMATS THEORY PROVED CLAUSES REFERENCES"
 printf 'PAGES = {%s}\n' "$(for page in $pages; do printf '%s = true, ' "$page"; done)" >"$work/pages.lua"
-cat "$work/pages.lua" "$work/links.lua" >"$work/filter.lua"
+cat "$work/pages.lua" "$texts/links.lua" >"$work/filter.lua"
 for page in $pages; do
     [ -f "$root/docs/$page.md" ] || continue
     title=$(sed -n 's/^# //p' "$root/docs/$page.md" | head -n 1)
@@ -148,27 +153,12 @@ cp -R "$root/examples" "$docs/" && cp "$root/CHANGELOG.md" "$root/CITATION.cff" 
 while read -r picture; do
     mkdir -p "$docs/${picture%/*}" && cp "$root/docs/$picture" "$docs/$picture" || exit 1
 done <"$work/pictures"
-cat >"$docs/RECORD" <<RECORD
-clearing $version
-commit $commit
-toolchain $kit
-crates $(find "$root"/crates/*/src -maxdepth 0 | wc -l)
-edits that the gate refused $(find "$root"/crates/*/must-fail -name '*.edit' | wc -l)
-edits beside the gate $(find "$root"/crates/*/edits -name '*.edit' 2>/dev/null | wc -l)
-gate $last
-program $(sha256sum <"$program" | cut -d ' ' -f 1)
-
-$said
-The program wants Linux on x86-64 with glibc $glibc or later, and a processor of the level x86-64-v2.
-Its checksum tells whether it is this program, and not whether a program is right.
-No licence has been chosen.
-RECORD
-cat >"$docs/INSTALL" <<INSTALL
-From the archive:   tar -xzf clearing-$version-x86_64.tar.gz --strip-components=1 -C PREFIX
-From the package:   apt install ./clearing_${version}_amd64.deb
-Without either:     the program is bin/clearing and wants nothing beside it. The tools want Python 3.
-RECORD says what was built and proved; guide.html is where to begin.
-INSTALL
+fill RECORD VERSION="$version" COMMIT="$commit" TOOLCHAIN="$kit" GATE="$last" SAID="$said" GLIBC="$glibc" \
+    CRATES="$(find "$root"/crates/*/src -maxdepth 0 | wc -l)" \
+    REFUSED="$(find "$root"/crates/*/must-fail -name '*.edit' | wc -l)" \
+    BESIDE="$(find "$root"/crates/*/edits -name '*.edit' 2>/dev/null | wc -l)" \
+    PROGRAM="$(sha256sum <"$program" | cut -d ' ' -f 1)" >"$docs/RECORD" || exit 1
+fill INSTALL VERSION="$version" >"$docs/INSTALL" || exit 1
 find "$stage" -name __pycache__ -prune -exec rm -rf {} +
 # The rights of a checkout are those of its user's mask; those of a release are the same for all.
 find "$stage" -type d -exec chmod 755 {} + && find "$stage" -type f -perm -u+x -exec chmod 755 {} + &&
@@ -189,69 +179,20 @@ rm "$tree/usr/share/doc/clearing/INSTALL"
 find "$tree/usr/share/clearing/bin" -type f -exec sed -i '1s|^#!/usr/bin/env python3$|#!/usr/bin/python3|' {} +
 maintainer="Zemdalup maintainers <maintainers@zemdalup.example>"
 date=$(LC_ALL=C TZ=UTC date -R -d "@$SOURCE_DATE_EPOCH")
-gzip -9n >"$tree/usr/share/doc/clearing/changelog.gz" <<CHANGES
-clearing ($version) unstable; urgency=medium
-
-  * CHANGELOG.md says what changed.
-  * From the commit $commit.
-
- -- $maintainer  $date
-CHANGES
-cat >"$tree/usr/share/doc/clearing/copyright" <<COPYRIGHT
-Copyright $(date -u -d "@$SOURCE_DATE_EPOCH" +%Y) Zemdalup maintainers
-
-No licence has been chosen. All rights are reserved by the Zemdalup maintainers.
-COPYRIGHT
+fill changelog VERSION="$version" COMMIT="$commit" MAINTAINER="$maintainer" DATE="$date" >"$work/changelog" &&
+    gzip -9n <"$work/changelog" >"$tree/usr/share/doc/clearing/changelog.gz" || exit 1
+fill copyright YEAR="$(date -u -d "@$SOURCE_DATE_EPOCH" +%Y)" >"$tree/usr/share/doc/clearing/copyright" || exit 1
 # The pages, for what shows the documents of a system.
 mkdir -p "$tree/usr/share/doc-base" "$tree/usr/share/lintian/overrides"
-cat >"$tree/usr/share/doc-base/clearing.clearing" <<PAGES
-Document: clearing
-Title: Settlement in networks of banks
-Author: Zemdalup maintainers
-Abstract: Who pays what when banks owe each other more than they have:
- a tour of the program and its tools, their files, what results mean, and
- what is proved.
-Section: Science/Mathematics
-
-Format: HTML
-Index: /usr/share/doc/clearing/guide.html
-Files: /usr/share/doc/clearing/*.html
-PAGES
+cp "$texts/doc-base" "$tree/usr/share/doc-base/clearing.clearing" || exit 1
 # The program is the one whose checksum the record has.
-cat >"$tree/usr/share/lintian/overrides/clearing" <<OVERRIDES
-# The program is released as it was proved and built, and the record has its checksum.
-clearing: unstripped-binary-or-object [usr/bin/clearing]
-# It is compiled of Rattle, and fortified calls belong to the headers of C.
-clearing: hardening-no-fortify-functions [usr/bin/clearing]
-# Pages that tools fill, and no documents.
-clearing: package-contains-documentation-outside-usr-share-doc [usr/share/clearing/python/src/clearing_tools/desk/page/page.html]
-clearing: package-contains-documentation-outside-usr-share-doc [usr/share/clearing/python/src/clearing_tools/drawing/web/player.html]
-OVERRIDES
+cp "$texts/overrides" "$tree/usr/share/lintian/overrides/clearing" || exit 1
 chmod 644 "$tree/usr/share/doc/clearing/copyright" "$tree/usr/share/doc/clearing/changelog.gz" \
     "$tree/usr/share/doc-base/clearing.clearing" "$tree/usr/share/lintian/overrides/clearing"
 size=$(du -sk "$tree/usr" | cut -f 1)
-cat >"$tree/DEBIAN/control" <<CONTROL
-Package: clearing
-Version: $version
-Architecture: amd64
-Maintainer: $maintainer
-Installed-Size: $size
-Depends: libc6 (>= $glibc), python3 (>= 3.9)
-Recommends: node-d3, python3-bottle, python3-jinja2
-Suggests: chromium, python3-docx, python3-markdown-it, python3-matplotlib, python3-networkx, python3-numpy, python3-odf, python3-openpyxl
-Section: science
-Priority: optional
-Description: proved settlement simulator for networks of banks
- Computes who pays what when banks owe each other more than they have, in whole
- units and by a bankruptcy rule for each bank. Its computation is proved; that
- it reads files and writes its output rightly is tested.
-CONTROL
+fill control VERSION="$version" MAINTAINER="$maintainer" SIZE="$size" GLIBC="$glibc" >"$tree/DEBIAN/control" || exit 1
 # Python keeps what it read of the tools beside them, where it may.
-cat >"$tree/DEBIAN/prerm" <<'PRERM'
-#!/bin/sh
-set -e
-find "${DPKG_ROOT:-}/usr/share/clearing" -name __pycache__ -prune -exec rm -rf {} +
-PRERM
+cp "$texts/prerm" "$tree/DEBIAN/prerm" || exit 1
 (cd "$tree" && find usr -type f -print0 | LC_ALL=C sort -z | xargs -0 md5sum) >"$tree/DEBIAN/md5sums" || exit 1
 chmod 755 "$tree/DEBIAN/prerm" && chmod 644 "$tree/DEBIAN/md5sums" || exit 1
 find "$tree" -exec touch -h -d "@$SOURCE_DATE_EPOCH" {} +

@@ -2,7 +2,7 @@
 
 What a tool takes to do its work stands in three modules, and is offered here too: `finding` has the program, `running`
 its runs side by side, and `saying` what is told to people. All four import the standard library alone, so that evidence
-is checked by `evidence/`, `files.py` and these.
+is checked by `evidence/`, `files.py`, `way.py` and these.
 """
 import contextlib
 import functools

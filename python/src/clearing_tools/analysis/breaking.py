@@ -204,9 +204,34 @@ class Curve:
             axes.set_ylabel("banks in default")
 
 
-def loss_words(bank: str, case: Case) -> str:
-    """What the axis of the losses of a bank says."""
-    return f"loss of {style.in_short(cases.names_of(case)(bank))}, in units"
+class Breaks(NamedTuple):
+    """What breaks each bank: the kind of shock, the most that there is of it, and what an axis of it says; the banks,
+    the least shock that breaks each and its state then; and the places of the banks whose cash goes."""
+
+    kind: str
+    most: int
+    words: str
+    names: List[str]
+    shocks: List[int]
+    states: List[str]
+    hit: Container[int]
+
+
+def by_cut(runs: ProgramRuns, files: List[str]) -> Breaks:
+    """The least cuts of all cash, by `clearing breaking`."""
+    cuts = queries.answer_of(runs, ["breaking", *files], Breaking).cuts
+    names, shocks, states = map(cuts.column, ("bank", "cut", "state"))
+    return Breaks("cut", MAX_CUT, "cut of all cash, per mille", names, shocks, states, range(len(names)))
+
+
+def by_loss(runs: ProgramRuns, files: List[str], network: queries.Network, name: str, case: Case) -> Breaks:
+    """The least losses of a bank alone. Fails with 4 where no bank has the name."""
+    if name not in network.names:
+        like = {each.strip().casefold(): each for each in network.names}.get(name.strip().casefold())
+        raise ToolError(f"no bank has the name {name!r}" + (f"; is it {like!r}?" if like else ""), 4)
+    bank = network.names.index(name)
+    words = f"loss of {style.in_short(cases.names_of(case)(name))}, in units"
+    return Breaks("loss", network.cash[bank], words, network.names, *losses_of(runs, files, network, bank), [bank])
 
 
 @command()
@@ -221,23 +246,15 @@ def main() -> None:
     cli.keep_inputs(cases.inputs_of(taken.case), [args.output, args.picture])
     pyplot = style.pyplot_of() if args.picture else None
     runs, files = ProgramRuns(), cli.words_of(taken)
-    network = queries.Network([], [], [], [], [])
-    if pyplot or args.loss is not None:
-        network = queries.network_of(runs, files)
-    if args.loss is None:
-        most, kind, words = MAX_CUT, "cut", "cut of all cash, per mille"
-        cuts = queries.answer_of(runs, ["breaking", *files], Breaking).cuts
-        names, shocks, states = map(cuts.column, ("bank", "cut", "state"))
-        hit = list(range(len(names)))
-    elif args.loss in network.names:
-        bank = network.names.index(args.loss)
-        most, kind, words = network.cash[bank], "loss", loss_words(args.loss, taken.case)
-        names, hit, (shocks, states) = network.names, [bank], losses_of(runs, files, network, bank)
+    network = queries.network_of(runs, files) if pyplot or args.loss is not None else None
+    if network and args.loss is not None:
+        breaks = by_loss(runs, files, network, args.loss, taken.case)
     else:
-        like = {name.strip().casefold(): name for name in network.names}.get(args.loss.strip().casefold())
-        raise ToolError(f"no bank has the name {args.loss!r}" + (f"; is it {like!r}?" if like else ""), 4)
+        breaks = by_cut(runs, files)
     called = cases.marked_names_of(taken.case)
-    if pyplot:
-        curve = Curve(shocks, depths_of(network, most, hit), most, list(map(called, names)))
-        style.save(curve.draw(pyplot, words), args.picture, folders=False)
-    workbook.write_table(("bank", kind, "state"), zip(names, shocks, states), args.output)
+    if pyplot and network:
+        depths = depths_of(network, breaks.most, breaks.hit)
+        curve = Curve(breaks.shocks, depths, breaks.most, list(map(called, breaks.names)))
+        style.save(curve.draw(pyplot, breaks.words), args.picture, folders=False)
+    records = zip(breaks.names, breaks.shocks, breaks.states)
+    workbook.write_table(("bank", breaks.kind, "state"), records, args.output)

@@ -159,6 +159,7 @@ def tables_of(network: queries.Network, answers: Answers, columns: Dict[str, Lis
 
 @command()
 def main() -> None:
+    """The command."""
     args, taken = parse_args()
     cli.keep_inputs([*cases.inputs_of(taken.case), args.moments, args.past], [args.output, args.each, args.picture])
     pyplot = style.pyplot_of() if args.picture else None

@@ -146,6 +146,7 @@ def fill(pyplot: ModuleType, axes: Axes, heat: Heat) -> AxesImage:
 
 @command()
 def main() -> None:
+    """The command."""
     parser = cli.case_parser(__doc__)
     parser.add_argument("--ranking", metavar="FILE", help="the ranking, standard output where it is not given")
     parser.add_argument("--matrix", metavar="FILE", help="the matrix to write, in long form")

@@ -34,6 +34,7 @@ from . import queries
 
 @command()
 def main() -> None:
+    """The command."""
     parser = cli.case_parser(__doc__)
     parser.add_argument("--output", metavar="FILE", help="the CSV, standard output where it is not given")
     parser.add_argument("--saved", metavar="FILE", help="who is saved by whose rescue, to write")

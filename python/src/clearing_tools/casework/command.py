@@ -183,15 +183,10 @@ def refresh(args: argparse.Namespace) -> int:
     """Describes the files of a case anew."""
     cases.check_moment()
     case = cases.read_case(args.case)
-    for word, key in (
-        ("title", "title"),
-        ("test", "test"),
-        ("currency", "currency"),
-        ("unit", "unit"),
-        ("default_keeps", "keep"),
-    ):
-        if getattr(args, word) is not None:
-            setattr(case, key, getattr(args, word))
+    given = dict(title=args.title, test=args.test, currency=args.currency, unit=args.unit, keep=args.default_keeps)
+    for key, value in given.items():
+        if value is not None:
+            setattr(case, key, value)
     if args.as_of is not None:
         case.as_of = description.date_of(args.as_of)
     if args.text is not None:

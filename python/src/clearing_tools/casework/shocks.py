@@ -96,9 +96,22 @@ def scenarios_of(table: Table, case: Case, args: argparse.Namespace, faults: Fau
     cash = {bank: account.cash for bank, account in read_accounts(case.paths["banks"])[1].items()}
     losses = list(losses_of(table, args, faults))
     check_banks(table, losses, cash, case, faults, args)
-    names = (
-        list(table.rows) if args.rows else [column for column in table.header if column and column not in args.ignore]
-    )
+    names = names_in(table, args, faults)
+    faults.end_if_any()
+    whole = WholeLosses(names, Fraction(case.unit) / (args.amounts_in or 1))
+    for loss in losses:
+        exact = loss.amount * cash[loss.bank] if args.share else loss.amount / whole.worth
+        if round(exact) > MAX_LOSS:
+            what = f"a loss of {round(exact):,} units, more than the most, {MAX_LOSS:,}"
+            faults.add(table, loss.row, loss.column, what)
+        whole.take(loss, exact, cash[loss.bank])
+    whole.tell(summary, table)
+    return Scenarios([Scenario(name, losses=whole.units[name]) for name in names])
+
+
+def names_in(table: Table, args: argparse.Namespace, faults: Faults) -> List[str]:
+    """The names of the scenarios of a sheet. Those that are none are refused, and so are too many."""
+    names = list(table.rows) if args.rows else [name for name in table.header if name and name not in args.ignore]
     for name in names:
         if not is_name(name):
             what = f"{name!r} is no name of a scenario: 1 to 64 bytes, no comma, quote or control character"
@@ -106,22 +119,43 @@ def scenarios_of(table: Table, case: Case, args: argparse.Namespace, faults: Fau
     if len(names) > MAX_SCENARIOS:
         what = f"{len(names):,} scenarios, {len(names) - MAX_SCENARIOS:,} more than the most, {MAX_SCENARIOS:,}"
         faults.add(table, None, None, what)
-    faults.end_if_any()
-    units: Dict[str, Dict[str, int]] = {name: {} for name in names}
-    worth = Fraction(case.unit) / (args.amounts_in or 1)
-    off: List[Fraction] = []
-    above = 0
-    for loss in losses:
-        exact = loss.amount * cash[loss.bank] if args.share else loss.amount / worth
+    return names
+
+
+class WholeLosses:
+    """Losses in whole units, which are worth so much of the amounts of a sheet each: by scenario and bank, and what was
+    rounded."""
+
+    def __init__(self, names: List[str], worth: Fraction) -> None:
+        self.worth = worth
+        self.units: Dict[str, Dict[str, int]] = {name: {} for name in names}
+        self.off: List[Fraction] = []  # by how much each was rounded, in the amounts of the sheet
+        self.above = 0  # how many are above the cash of their bank
+
+    def take(self, loss: Loss, exact: Fraction, cash: int) -> None:
+        """Takes a loss of so many units, rounded to a whole number, at a bank with so much cash."""
         whole = round(exact)
-        if whole > MAX_LOSS:
-            faults.add(table, loss.row, loss.column, f"a loss of {whole:,} units, more than the most, {MAX_LOSS:,}")
-        off += [abs(whole - exact) * worth] if whole != exact else []
-        above += whole > cash[loss.bank]
+        if whole != exact:
+            self.off.append(abs(whole - exact) * self.worth)
+        self.above += whole > cash
         if whole:
-            units[loss.scenario][loss.bank] = whole
-    tell(summary, table, units, worth, off, above)
-    return Scenarios([Scenario(name, losses=units[name]) for name in names])
+            self.units[loss.scenario][loss.bank] = whole
+
+    def tell(self, summary: Summary, table: Table) -> None:
+        """Tells what was made, and what was rounded, in the amounts of the sheet."""
+        count = sum(map(len, self.units.values()))
+        total = sum(sum(losses.values()) for losses in self.units.values())
+        summary.tell("rows read", len(table.rows), None, table.label)
+        in_all = f"{shown(total * self.worth)} in all, in units of {shown(self.worth)}: {total:,}"
+        summary.tell("scenarios made", len(self.units), None, f"{labels.count(count, 'loss', 'losses')}; {in_all}")
+        empty = [name for name, losses in self.units.items() if not losses]
+        if empty:
+            summary.tell("scenarios without a loss", len(empty), None, ", ".join(empty[:5]))
+        if self.off:
+            by = f"by {shown(sum(self.off))} together, the largest by {shown(max(self.off))}"
+            summary.tell("losses rounded", len(self.off), None, by)
+        if self.above:
+            summary.tell("losses above the cash of the bank, which then loses it all", self.above)
 
 
 def losses_of(table: Table, args: argparse.Namespace, faults: Faults) -> Iterator[Loss]:
@@ -171,28 +205,3 @@ def check_banks(
         if loss.bank not in cash:
             hint = "" if not args.rows else f"; say --ignore {tables.quoted(loss.column)} if it is no bank"
             faults.add(table, loss.row, loss.column, f"{case.folder} has no bank {loss.bank}{hint}", kind="no bank")
-
-
-def tell(
-    summary: Summary, table: Table, units: Dict[str, Dict[str, int]], worth: Fraction, off: List[Fraction], above: int
-) -> None:
-    """Tells what was made, and what was rounded, in the amounts of the sheet; a unit is worth so much of them."""
-    count = sum(map(len, units.values()))
-    total = sum(sum(losses.values()) for losses in units.values())
-    summary.tell("rows read", len(table.rows), None, table.label)
-    summary.tell(
-        "scenarios made",
-        len(units),
-        None,
-        f"{labels.count(count, 'loss', 'losses')}; {shown(total * worth)} in all, "
-        f"in units of {shown(worth)}: {total:,}",
-    )
-    empty = [name for name, losses in units.items() if not losses]
-    if empty:
-        summary.tell("scenarios without a loss", len(empty), None, ", ".join(empty[:5]))
-    if off:
-        summary.tell(
-            "losses rounded", len(off), None, f"by {shown(sum(off))} together, the largest by {shown(max(off))}"
-        )
-    if above:
-        summary.tell("losses above the cash of the bank, which then loses it all", above)

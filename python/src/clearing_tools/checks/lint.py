@@ -36,8 +36,10 @@ from clearing_client.format import NUMBERS
 from clearing_client.limits import LIMITS, STANDARD
 
 from .. import cases, cli
+from ..labels import count
 from ..runner import ToolError, command
-from .linter import Fault, Linter
+from .findings import Fault
+from .linter import Linter
 
 
 def line_of(fault: Fault, files: Mapping[str, str]) -> str:
@@ -61,6 +63,7 @@ def content_of(file: str, name: str, limits: str = STANDARD) -> bytes:
 
 @command("lint")
 def main() -> int:
+    """The command."""
     parser = cli.case_parser(__doc__)
     parser.add_argument("--scenarios", metavar="FILE", help="the scenarios file")
     parser.add_argument("--journal", metavar="FILE", help="the journal file")
@@ -73,13 +76,13 @@ def main() -> int:
     contents = {file: content_of(file, name, taken.limits) for file, name in files.items()}
     linter = Linter(limits=taken.limits, **contents)
     faults, warnings = linter.faults, list(linter.warnings())
-    count = {0: "no fault", 1: "1 fault"}.get(len(faults), f"{len(faults):,} faults")
-    if warnings:
-        count += ", 1 warning" if len(warnings) == 1 else f", {len(warnings):,} warnings"
+    counts = (count(len(faults), "fault") if faults else "no fault") + (
+        f", {count(len(warnings), 'warning')}" if warnings else ""
+    )
     if isinstance(sys.stdout, io.TextIOWrapper):
         sys.stdout.reconfigure(encoding="utf-8", errors="backslashreplace")
     try:
-        print("\n".join([line_of(fault, files) for fault in faults + warnings] + [count]), flush=True)
+        print("\n".join([line_of(fault, files) for fault in faults + warnings] + [counts]), flush=True)
     except BrokenPipeError:
         # A reader who has seen enough is no fault.
         os.dup2(os.open(os.devnull, os.O_WRONLY), sys.stdout.fileno())

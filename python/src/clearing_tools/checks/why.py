@@ -17,55 +17,13 @@ import io
 import os
 import re
 import sys
-from typing import Dict, List, Mapping, Optional, Sequence, Tuple, Union
+from typing import Dict, List, Optional, Sequence, Tuple
 
-from clearing_client.format import MAX_KEEP, MAX_SEED, MAX_SIZE, MAX_SWEEPS, MAX_TRIES, MAX_WORKERS, is_name
-from clearing_client.limits import LIMITS
+from clearing_client.format import is_name
 
 from .. import runner
 from ..runner import command, tool_name
-
-# What each task requires, and what it may have.
-FILES = ["banks", "debts"]
-WORKERS = ["workers", "sweeps"]
-BY = ["limits"]
-TASKS: Dict[str, Tuple[List[str], List[str]]] = {
-    "check": (FILES, BY),
-    "clear": (FILES, WORKERS + ["show"] + BY),
-    "central": (FILES, BY),
-    "defaults": (FILES, WORKERS + BY),
-    "stress": (FILES + ["scenarios"], WORKERS + BY),
-    "replay": (FILES + ["journal"], BY),
-    "gen": (["seed", "size", "tries"], WORKERS),
-    "convert": (FILES, BY),
-    "bounds": (FILES, WORKERS + BY),
-    "rescue": (FILES + ["bank"], WORKERS + BY),
-    "compress": (FILES, BY),
-    "costs": (FILES + ["keep"], BY),
-    "breaking": (FILES, BY),
-    "impact": (FILES, BY),
-    "rescues": (FILES, BY),
-    "outcomes": (FILES + ["scenarios"], BY),
-    "cost-bounds": (FILES + ["keep"], BY),
-}
-SHOWN = ["payments", "journal", "both"]
-Kind = Union[str, List[str], Tuple[int, int]]
-"""What the value of an option is: the name of a file or a bank, one of some words, or a number from one to another."""
-OPTIONS: Mapping[str, Kind] = {
-    "banks": "file",
-    "debts": "file",
-    "scenarios": "file",
-    "journal": "file",
-    "bank": "bank",
-    "workers": (1, MAX_WORKERS),
-    "sweeps": (1, MAX_SWEEPS),
-    "show": SHOWN,
-    "seed": (0, MAX_SEED),
-    "size": (1, MAX_SIZE),
-    "tries": (0, MAX_TRIES),
-    "keep": (0, MAX_KEEP),
-    "limits": list(LIMITS),
-}
+from .command_line import OPTIONS, TASKS, Value
 
 
 class Reader:
@@ -124,7 +82,7 @@ class Reader:
         elif not is_utf8(value):
             self.add(at, f"the value of --{name} is not UTF-8")
         else:
-            wrong = value_fault(OPTIONS[name], value)
+            wrong = value_fault(OPTIONS[name].value, value)
             if wrong:
                 self.add(at if sign == " " else place, f"{shown(value)} is no value of --{name}: {wrong}")
         return at
@@ -149,12 +107,12 @@ class Reader:
             self.add(0, "there is no task", f"the tasks are {', '.join(TASKS)}")
         if self.task is None or self.task not in TASKS:
             return
-        required, allowed = TASKS[self.task]
+        task = TASKS[self.task]
         for name, at in self.options.items():
-            if name not in required + allowed:
-                others = [task for task, uses in TASKS.items() if name in uses[0] + uses[1]]
+            if name not in task.options:
+                others = [other for other, uses in TASKS.items() if name in uses.options]
                 self.add(at, f"{self.task} has no option --{name}", f"it is of {', '.join(others)}")
-        for name in required:
+        for name in task.required:
             if name not in self.options:
                 self.add(0, f"{self.task} requires --{name}")
 
@@ -177,7 +135,7 @@ def option_hint(name: str) -> str:
     return f"is it --{close[0]}?" if close else f"the options are {', '.join(f'--{option}' for option in OPTIONS)}"
 
 
-def value_fault(kind: Kind, value: str) -> Optional[str]:
+def value_fault(kind: Value, value: str) -> Optional[str]:
     """What is wrong with a value of an option, or nothing."""
     if kind == "file":
         is_wrong = value == "" or value.startswith("-")
@@ -208,6 +166,7 @@ def faults_of(words: Sequence[str]) -> List[Tuple[int, str]]:
 
 @command("why.py")
 def main() -> int:
+    """The command."""
     words = sys.argv[1:]
     if words in (["--help"], ["-h"]):
         print(f"usage: {tool_name()} WORDS..\n\n{__doc__.strip()}")

@@ -16,12 +16,13 @@ from typing import Dict, Iterable, Iterator, List, NamedTuple, Optional, Sequenc
 from .. import runner
 from ..runner import ToolError
 from . import audit, shock, source
-from .parts import (
+from .layout import (
     BANKS, CHANGES, DESCRIPTION, FILE, JOURNAL, LABELS, OLDER_README, PROGRAM, README, SUMS, TABLES, TEXTS, UNREAD,
-    VERSIONS, CommandOf, NoRoomError, Part, at_hand, checksum_of, commands_of, commands_text, is_stress, limits_of,
-    limits_words, most_of, most_of_journal, names_of, opened_in, parts_of, program_sum, read_inputs, read_rescue,
-    rescue_holds, sums_listed, sums_text, words_of,
+    VERSIONS, CommandOf, commands_text, limits_of, limits_words, most_of, most_of_journal, sums_listed, sums_text,
 )
+from .parts import Part, commands_of, is_stress, names_of, parts_of, read_inputs, read_rescue, rescue_holds, words_of
+from .plain_files import NoRoomError, checksum_of, opened_in
+from .versions import at_hand, program_sum
 
 # No folder of these commands has as many names.
 MOST_NAMES = 1000

@@ -15,11 +15,13 @@ from clearing_client.case import Case
 
 from .. import cases, files, runner
 from ..runner import ToolError
+from ..way import Way
 from . import audit, shock, source
-from .parts import (
-    CHANGES, DESCRIPTION, LABELS, MOST_OF_OTHERS, NETWORK, README, checksum, commands_of, commands_text, contents,
-    limits_words, parts_of, read_inputs, rescue_holds, stress_of, sums_text,
+from .layout import (
+    CHANGES, DESCRIPTION, LABELS, MOST_OF_OTHERS, NETWORK, README, commands_text, limits_words, sums_text,
 )
+from .parts import commands_of, parts_of, read_inputs, rescue_holds, stress_of
+from .plain_files import checksum, contents
 from .versions import versions
 
 
@@ -195,7 +197,7 @@ def files_of(folder: pathlib.Path) -> List[str]:
 
 
 @contextlib.contextmanager
-def new_folder(way: files.Way, mode: int) -> Iterator[pathlib.Path]:
+def new_folder(way: Way, mode: int) -> Iterator[pathlib.Path]:
     """A folder of one's own beside the place at the end of a way, which is moved there in the end, or goes again. It
     is named by its descriptor, so that whoever can change the folder above cannot have another written to."""
     part = f".part-{secrets.token_hex(8)}"
@@ -232,7 +234,7 @@ def make(args: argparse.Namespace) -> int:
     mask = files.mask_of(name for name in inputs if name is not None)
     os.umask(mask)
     try:
-        with contextlib.closing(files.Way(args.folder)) as way, new_folder(way, 0o777 & ~mask) as folder:
+        with contextlib.closing(Way(args.folder)) as way, new_folder(way, 0o777 & ~mask) as folder:
             summary = Making(folder, args).summary
     except OSError as fault:
         raise ToolError(f"cannot write {args.folder}: {fault.strerror}", 5) from fault

@@ -1,42 +1,13 @@
-"""What belongs to a folder of evidence: its networks, its commands, its names, and what follows from what."""
-import hashlib
-import os
-import re
-import stat
-from typing import Callable, Dict, IO, Iterable, List, Mapping, NamedTuple, Optional, Sequence, Set, Tuple
+"""The networks of an evidence: as it is, what each scenario leaves, and with the sum that saves a bank; the commands
+that print what is there of each, and what follows from what."""
+from typing import Callable, IO, Iterable, List, NamedTuple, Optional, Sequence, Set, Tuple
 
-from .. import runner
-from ..runner import ROOT, ToolError
+from ..runner import ToolError
 from . import audit, shock
-
-UNREAD, SUMS, BANKS, JOURNAL, TABLES, PROGRAM = 3, 4, 5, 6, 7, 8
-
-# The texts that each folder has beside the inputs and what is printed.
-TEXTS = ("README.txt", "SHA256SUMS", "commands.tsv", "versions.txt")
-# What was changed before, in words, in the folders that say so.
-CHANGES = "inputs/changes.txt"
-# What banks are called, and the description of the case, in the folders of a case: nothing is computed of them.
-LABELS, DESCRIPTION = "inputs/labels.csv", "inputs/datapackage.json"
-# What a file of a folder may be called, and how long it may be at most.
-FILE = re.compile(
-    r"inputs/(banks\.csv|debts\.csv|scenarios\.toml|changes\.txt|labels\.csv|datapackage\.json)"
-    r"|README\.txt|SHA256SUMS|commands\.tsv|versions\.txt"
-    r"|stress\.csv|rescue/rescue\.csv|source/(command\.tsv|summary\.csv|[0-9]+-[^/\0\t\n]{1,200})"
-    r"|(as-is|scenario-[1-9][0-9]{0,2}|rescue|unit-less)/(banks|journal|payments|defaults)\.csv"
-)
-MOST_OF_OTHERS, MOST_OF_SHEETS, MOST_OF_COMMAND = 8_388_608, 400_000_000, 100_000
-NETWORK = audit.LIMITS[audit.WIDE]
-MOST = {
-    "banks.csv": NETWORK.size, "debts.csv": NETWORK.size, "payments.csv": NETWORK.size, "rescue.csv": NETWORK.size,
-    "journal.csv": NETWORK.journal, "stress.csv": 400_000_000, "command.tsv": MOST_OF_COMMAND, "SHA256SUMS": 1_000_000,
-}
-WIDELY = ["--limits", audit.WIDE]
-VERSIONS = re.compile(rb"repository [ -~]{1,200}\nprogram [0-9a-f]{64}\ntoolchain [ -~]{1,200}\npython [ -~]{1,100}\n")
+from .layout import TEXTS, UNREAD, CommandOf, limits_words
 
 Read = Callable[[str], bytes]
 """What gives the content of a file of an evidence."""
-CommandOf = Tuple[str, List[str]]
-"""A file that the program prints, and the words that make it."""
 
 
 class Part(NamedTuple):
@@ -46,68 +17,6 @@ class Part(NamedTuple):
     label: str
     folder: str
     banks: Optional[bytes]
-
-
-README_BEGIN = """Evidence for what `clearing` says of a network.
-
-source/        the sheets that the two files were made of, with the command and its summary, where it began there
-inputs/        the files as they were given, or made of the source; changes.txt says what was changed before, where \
-something was
-as-is/         the network as it is: a journal of raises, the payments, the defaults
-scenario-1/ .. what each scenario leaves: the banks file, and the same three
-rescue/        the banks file with the least sum that saves a bank, and the same three
-unit-less/     with a unit less
-commands.tsv   the words and the status of each run of the program, from this folder, with the limits where wide
-versions.txt   of the repository, the program and the toolchain
-SHA256SUMS     checksums of all files: `sha256sum --check SHA256SUMS`
-
-"""
-README = README_BEGIN + """\
-`clearing-evidence check FOLDER` of the repository checks all this with Python alone; on another machine it needs
-bin/clearing-evidence and python/src of the repository, in one folder. docs/FORMATS.md there has the files, and
-clearing-audit says in its first lines what they mean.
-"""
-OLDER_README = README_BEGIN + """\
-`tools/evidence.sh check FOLDER` of the repository checks all this with Python alone; on another machine it needs \
-tools/evidence.sh,
-tools/evidence.py and python/src of the repository, in one folder. docs/FORMATS.md there has the files, and \
-tools/audit.py says in its
-first lines what they mean.
-"""
-"""What folders say that were made before the commands stood in bin/. It goes with the next release."""
-
-
-def contents(name: str, most: int = MOST_OF_OTHERS) -> bytes:
-    """The bytes of a file as far as the limit of its kind, and one more of a longer one; it ends with 3 where it
-    cannot be read."""
-    try:
-        with open(name, "rb") as file:
-            return file.read(most + 1)
-    except (OSError, ValueError) as fault:
-        raise ToolError(f"cannot read {audit.shown(name)}", 3) from fault
-
-
-def checksum(content: bytes) -> str:
-    """The SHA-256 checksum of some bytes."""
-    return hashlib.sha256(content).hexdigest()
-
-
-def most_of(name: str) -> int:
-    """How many bytes a file of an evidence has at most."""
-    is_sheet = re.match(r"source/[0-9]", name)
-    return MOST_OF_SHEETS if is_sheet else MOST.get(os.path.basename(name), MOST_OF_OTHERS)
-
-
-def most_of_journal(network: audit.Network) -> int:
-    """How many bytes a journal of a network has at most: each raise that is lawful pays a unit at least of what is
-    owed."""
-    longest = max((len(bank.name) for bank in network.banks), default=0)
-    line = len("4294967295,,,9,1000000\n") + 2 * longest
-    ends = len(b",".join(audit.JOURNAL)) + 1 + len("rounds,\n") + 20
-    return min(NETWORK.journal, ends + sum(debt.claim for debt in network.debts) * line)
-
-
-# What belongs to an evidence.
 
 
 def read_rescue(text: bytes) -> Tuple[bytes, int, int, bytes]:
@@ -167,32 +76,11 @@ def commands_of(parts: Sequence[Part], has_scenarios: bool, rescued: Optional[st
     return commands
 
 
-def limits_words(by: str) -> List[str]:
-    """The words of a command for some limits: none for the standard ones."""
-    return WIDELY if by == audit.WIDE else []
-
-
-def limits_of(commands: bytes) -> str:
-    """The limits that the commands of a folder were run by, as commands.tsv has them."""
-    return audit.WIDE if "\t".join(["", *WIDELY]).encode() in commands.partition(b"\n")[2] else audit.STANDARD
-
-
 def names_of(parts: Iterable[Part], commands: Iterable[CommandOf], has_scenarios: bool) -> Set[str]:
     """The names of all files of an evidence."""
     inputs = ["inputs/banks.csv", "inputs/debts.csv", *(["inputs/scenarios.toml"] if has_scenarios else [])]
     banks = [f"{part.folder}/banks.csv" for part in parts if part.banks is not None]
     return {*TEXTS, *inputs, *banks, *(file for file, _ in commands)}
-
-
-def sums_text(sums: Mapping[str, str]) -> bytes:
-    """SHA256SUMS of the checksums of some files by their names."""
-    return b"".join(b"%s  %s\n" % (sums[name].encode(), os.fsencode(name)) for name in sorted(sums))
-
-
-def commands_text(commands: Iterable[CommandOf]) -> bytes:
-    """A line for each command: the file, the status, and the words, with tabs between. No word has a tab."""
-    lines = [["file", "status", "words"]] + [[file, "0", *words] for file, words in commands]
-    return "".join("\t".join(line) + "\n" for line in lines).encode()
 
 
 def stress_of(scenarios: Sequence[shock.Scenario], parts: Sequence[Part], read: Read) -> bytes:
@@ -241,87 +129,3 @@ def read_inputs(
     network = audit.read_network(banks_data, debts_data, by)
     scenarios = shock.read_scenarios(scenarios_data, network.banks) if scenarios_data is not None else []
     return network, scenarios
-
-
-# Files, of which none is opened that is not within the folder.
-
-
-def opened_in(folder: int, name: str) -> int:
-    """The descriptor of a plain file within a folder, which is given by its own; no link is followed on the way, nor
-    is anything else opened. The last part of a name is the file, those before it are folders."""
-    *above, last = name.split("/")
-    here = os.dup(folder)
-    try:
-        for part in above:
-            below = os.open(part, os.O_RDONLY | os.O_DIRECTORY | os.O_NOFOLLOW, dir_fd=here)
-            os.close(here)
-            here = below
-        number = os.open(last, os.O_RDONLY | os.O_NOFOLLOW | os.O_NONBLOCK, dir_fd=here)
-    finally:
-        os.close(here)
-    if not stat.S_ISREG(os.fstat(number).st_mode):
-        os.close(number)
-        raise OSError(0, "it is no plain file")
-    return number
-
-
-class NoRoomError(Exception):
-    """Why a copy of a file cannot be written."""
-
-
-def checksum_of(number: int, most: int, copy: Optional[IO[bytes]] = None) -> str:
-    """The checksum of an open file, read block by block, as far as its limit; what is read is written to a copy where
-    one is open."""
-    with open(number, "rb", buffering=0) as file:
-        digest, size = hashlib.sha256(), 0
-        while block := file.read(1 << 20):
-            size += len(block)
-            if size > most:
-                raise OSError(0, f"it is longer than {most:,} bytes")
-            digest.update(block)
-            if copy is not None:
-                write_copy(copy, block)
-    return digest.hexdigest()
-
-
-def write_copy(copy: IO[bytes], block: bytes) -> None:
-    """Writes a block. That it cannot be written is no fault of what is read."""
-    try:
-        left = memoryview(block)
-        while left:
-            left = left[copy.write(left) :]
-    except OSError as fault:
-        raise NoRoomError(fault.strerror) from fault
-
-
-# The program.
-
-
-def at_hand() -> Optional[str]:
-    """The program that the tools came with, where it is there: that of the wheel; in a repository what was built, and
-    not the script that may build it; and beside installed tools the program itself."""
-    beside = runner.BUILT if (ROOT / "crates").is_dir() else ROOT / "clearing"
-    places = [runner.PACKED, *([beside] if runner.STANDS else [])]
-    return next((str(place) for place in places if os.access(place, os.X_OK)), None)
-
-
-def program_sum() -> str:
-    """The checksum of the program that runs; it ends with 2 where it cannot be read."""
-    try:
-        with open(runner.program_file(runner.program()), "rb") as file:
-            if not stat.S_ISREG(os.fstat(file.fileno()).st_mode):
-                raise OSError(0, "it is no file")
-            return runner.digest_of(file)
-    except OSError as fault:
-        raise ToolError(f"cannot read the program {audit.shown(runner.program())}", 2) from fault
-
-
-def sums_listed(text: bytes) -> Dict[str, str]:
-    """The checksums that SHA256SUMS lists, by the names of the files."""
-    listed: Dict[str, str] = {}
-    for line in text.decode("utf-8", "surrogateescape").removesuffix("\n").split("\n"):
-        sum_of, _, name = line.partition("  ")
-        if not name or name in listed or len(sum_of) != 64:
-            raise ToolError("SHA256SUMS is not a list of checksums", UNREAD)
-        listed[name] = sum_of
-    return listed

@@ -17,7 +17,7 @@ from typing import Callable, Dict, List, Mapping, NamedTuple, Optional, Sequence
 from .. import runner
 from ..runner import ToolError
 from . import confined
-from .parts import MOST_OF_COMMAND, MOST_OF_SHEETS
+from .layout import MOST_OF_COMMAND, MOST_OF_SHEETS
 
 TOOLS = {"from_matrix.py": "matrix", "from_list.py": "list", "from_totals.py": "totals"}
 """The tools that make two files of sheets, by the names that are kept of them, and their modules."""

@@ -1,10 +1,31 @@
-"""Which program, toolchain and sources an answer is of."""
+"""Which program, toolchain and sources an answer is of, and which program is at hand."""
+import os
 import platform
+import stat
 from typing import Optional
 
 from .. import runner
-from ..runner import ROOT
-from .parts import program_sum
+from ..runner import ROOT, ToolError
+from . import audit
+
+
+def at_hand() -> Optional[str]:
+    """The program that the tools came with, where it is there: that of the wheel; in a repository what was built, and
+    not the script that may build it; and beside installed tools the program itself."""
+    beside = runner.BUILT if (ROOT / "crates").is_dir() else ROOT / "clearing"
+    places = [runner.PACKED, *([beside] if runner.STANDS else [])]
+    return next((str(place) for place in places if os.access(place, os.X_OK)), None)
+
+
+def program_sum() -> str:
+    """The checksum of the program that runs; it ends with 2 where it cannot be read."""
+    try:
+        with open(runner.program_file(runner.program()), "rb") as file:
+            if not stat.S_ISREG(os.fstat(file.fileno()).st_mode):
+                raise OSError(0, "it is no file")
+            return runner.digest_of(file)
+    except OSError as fault:
+        raise ToolError(f"cannot read the program {audit.shown(runner.program())}", 2) from fault
 
 
 def line_printed_by(*words: str) -> Optional[str]:

@@ -108,6 +108,7 @@ def graph_of(banks: Dict[str, Attributes], debts: List[Tuple[str, str, Attribute
 
 @command("to_graphml")
 def main() -> None:
+    """The command."""
     parser = cli.parser_of(__doc__)
     parser.add_argument("payments", metavar="PAYMENTS", help="what `clear` or `central` printed")
     parser.add_argument("defaults", metavar="DEFAULTS", help="what `defaults` printed")

@@ -106,6 +106,7 @@ def matrix_of(taken: cases.Taken, args: argparse.Namespace, as_amount: AsAmount)
 
 @command("to_matrix")
 def main() -> None:
+    """The command."""
     parser = cli.case_parser(__doc__)
     parser.add_argument("--payments", metavar="FILE", help="what `clear` or `central` printed")
     parser.add_argument("--class", dest="class_", type=int, choices=range(1, 10), help="one class alone")

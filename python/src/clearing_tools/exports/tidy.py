@@ -135,6 +135,7 @@ def csv_lines(table: AnyTable, as_amount: AsAmount) -> List[str]:
 
 @command("tidy")
 def main() -> None:
+    """The command."""
     parser = cli.parser_of(__doc__)
     parser.add_argument("output", metavar="OUTPUT", help="what `clearing` printed; `-` is standard input")
     parser.add_argument("--case", metavar="FOLDER", help="the case that the text is of, for what a unit is worth")

@@ -33,6 +33,7 @@ class Pcg32:
         self.step()
 
     def step(self) -> None:
+        """Goes on to the next state."""
         self.state = (self.state * self.MULTIPLIER + self.increment) % 2**64
 
     def word(self) -> int:
@@ -65,6 +66,7 @@ def generate(seed: int, size: int, tries: int) -> Tuple[List[Tuple[str, int, str
 
 @command("gen_files")
 def main() -> None:
+    """The command."""
     parser = cli.parser_of(__doc__)
     parser.add_argument(
         "--seed", required=True, type=cli.number_in(0, MAX_SEED), help="the number the network is made from"

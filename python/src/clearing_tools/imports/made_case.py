@@ -17,6 +17,7 @@ from clearing_client.errors import CaseError
 
 from .. import files
 from ..runner import ToolError
+from ..way import Way
 from .amounts import Amounts, AmountError, decimals_of
 from .faults import Faults
 from .sheet_options import LABEL_COLUMNS, CaseOptions, SheetOptions
@@ -183,7 +184,7 @@ def remove_stale(written: Sequence[str]) -> None:
     names = set(written)
     for place in [name for name in written if os.path.basename(name) == description.NAME]:
         folder = os.path.dirname(place)
-        with contextlib.suppress(OSError), contextlib.closing(files.Way(place)) as way:
+        with contextlib.suppress(OSError), contextlib.closing(Way(place)) as way:
             for name in cases.FILES.values():
                 if os.path.join(folder, name) not in names:
                     files.remove(name, way.folder)
