@@ -18,15 +18,16 @@ use clr_net::{BankId, MAX_BANKS};
 use pay_words::Board;
 
 impl Worker {
-    /// Makes a round over the called banks of the worker: so many sweeps over their desks, in order,
-    /// each of which takes each bell that is up, and visits that desk. Ends early after a sweep that
-    /// found no bell up. Answers the units of all visits, or `Mem` at the first visit that answers
-    /// so, and then takes no bell and makes no visit.
+    /// Makes a round over the called banks of the worker: so many sweeps over their desks, in
+    /// order, each of which takes each bell that is up, and visits that desk. Ends early after a
+    /// sweep that found no bell up. Answers the units of all visits, or `Mem` at the first visit
+    /// that answers so, and then takes no bell and makes no visit.
     ///
     /// Before each sweep the banks of `anew`, if any, are called anew: all of them where other
-    /// workers may ring meanwhile. A bank that was never visited, or that may not have seen what was
-    /// paid to it before the seat was handed out, is called. Each bank that is rung is called, of
-    /// whichever worker; a bank of the seat is so no more once its bell was found down or was taken.
+    /// workers may ring meanwhile. A bank that was never visited, or that may not have seen what
+    /// was paid to it before the seat was handed out, is called. Each bank that is rung is called,
+    /// of whichever worker; a bank of the seat is so no more once its bell was found down or was
+    /// taken.
     pub fn round_over<G: Gate>(
         &mut self,
         board: &Board,

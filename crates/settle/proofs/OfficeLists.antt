@@ -14,6 +14,10 @@ use Rattle.bank_worker.proofs.Rooms.{banks_of_seat}
 use Rattle.settle.specs.Between.{IsOfBoard}
 use Rattle.settle.specs.Offices.{AreOffices, Serves, no_office, office_at}
 
+-- where there is none, they are those of no worker
+pub no_office_yet : (net : Net) (workers n : ℕ) (os : List OfficeView) → n ≡ 0 → os ≡ [] → AreOffices net workers n os
+no_office_yet net workers n os none e = record { as_many = omega (arith, none, ap length e); each = λ k l. absurd (omega (arith, l, none)) }
+
 -- one office more, that of the worker before
 pub office_more : (net : Net) (workers n i : ℕ) (os : List OfficeView) (o : OfficeView) → AreOffices net workers n os
     → workers - 1 - n ≡ i → Serves net workers i o → AreOffices net workers (n + 1) (os ++ o ∷ [])

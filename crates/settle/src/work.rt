@@ -49,8 +49,8 @@ pub(crate) fn work_and_add<R: Threads + Sync, G: Gate + Sync>(
     units
 }
 
-// A round of each of these workers, one after another, over those of their banks that are called. The
-// raises that wait are added to the journal before.
+// A round of each of these workers, one after another, over those of their banks that are called.
+// The raises that wait are added to the journal before.
 pub(crate) fn work_in_turn<G: Gate>(
     run: &Run<'_, G>,
     workers: &mut [Worker],
@@ -102,14 +102,14 @@ pub(crate) fn work<R: Threads + Sync, G: Gate + Sync>(
     }
     let (front, back) = workers.split_at_mut(workers.len() / 2);
     let mut low = || -> Result<u64, Mem>
-        requires { IsSync R.row × IsSync G.row
-            × (1 ≤ length front.now) × (length front.now ≤ 64) × AreReadyWorkers run.now.board.now front.now }
+        requires { IsSync R.row × IsSync G.row × (1 ≤ length front.now)
+            × (length front.now ≤ 64) × AreReadyWorkers run.now.board.now front.now }
         ensures { IfOk result (λ n. AreRounded run.entry.now.engine.now.plan.sweeps n
             front.entry.now front.exit.now) }
     { work(rt, run, front) };
     let mut high = || -> Result<u64, Mem>
-        requires { IsSync R.row × IsSync G.row
-            × (1 ≤ length back.now) × (length back.now ≤ 64) × AreReadyWorkers run.now.board.now back.now }
+        requires { IsSync R.row × IsSync G.row × (1 ≤ length back.now)
+            × (length back.now ≤ 64) × AreReadyWorkers run.now.board.now back.now }
         ensures { IfOk result (λ n. AreRounded run.entry.now.engine.now.plan.sweeps n
             back.entry.now back.exit.now) }
     { work(rt, run, back) };

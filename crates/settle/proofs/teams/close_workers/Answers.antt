@@ -1,5 +1,5 @@
 use Rattle.std.proofs.Math.Seq.{drop-length}
-use Rattle.std.proofs.Common.{append-nil, ◌≡◌, ◌+◌, ◌-◌, ◌≤◌, ◌++◌, drop, length, sym, ap, ◌∙◌, arith, rules, sum_by}
+use Rattle.std.proofs.Common.{append-nil, ◌≡◌, ◌+◌, ◌-◌, ◌≤◌, ◌++◌, drop, length, refl, sym, ap, ◌∙◌, arith, rules, sum_by}
 use Rattle.std.proofs.lemmas.List.Sums.{sum_by_push}
 use Rattle.pay_words.specs.declared.view.Shown.{Shown}
 use Rattle.pay_words.specs.Views.{rejoined}
@@ -7,8 +7,8 @@ use Rattle.bank_worker.specs.Views.{WorkerView}
 use Rattle.settle.specs.Between.{noted_in, raised_by_all}
 use Rattle.settle.specs.Rounds.{worker_at}
 use Rattle.settle.proofs.Calling.{called_from}
-use Rattle.settle.proofs.OfficeLists.{held_by, office_more, seat_serves}
-use Rattle.settle.proofs.Returned.{IsLast, back_more, grown_more, known_banks, last_of, raises_more}
+use Rattle.settle.proofs.OfficeLists.{held_by, no_office_yet, office_more, seat_serves}
+use Rattle.settle.proofs.Returned.{IsLast, back_more, back_none, grown_more, known_banks, last_of, raises_more}
 use Rattle.settle.proofs.Waiting.{noted_first, not_shorter}
 use Rattle.settle.proofs.teams.close_workers.Goals as goal
 use Rattle.settle.proofs.teams.close_workers.Given.{Over}
@@ -39,17 +39,18 @@ take_back-requires g c =
 
 pub loop-worker-init : goal.loop-worker-init
 loop-worker-init g c = record {
-  table = search rules;
-  back = search rules;
-  left = search rules;
-  offices = search rules;
+  table = refl;
+  back = back_none c.args.run.now.board.now.table.workers c.args.run.now.board.now.net c.args.master.now.shows c.args.workers.items c.requires.at.1;
+  left = record { few = omega arith; same = λ i lt. refl };
+  offices = no_office_yet c.args.run.now.board.now.net c.args.run.now.board.now.table.workers (c.args.run.now.board.now.table.workers - length c.args.workers.items) c.args.state.now.offices.items
+      (omega (arith, c.requires.as_many)) c.requires.offices;
   noted = noted_first c.args.state.now.journal.raises c.args.master.now.shows.raises c.args.state.now.waiting.items c.requires.none_waits;
   none_waits = λ _. c.requires.none_waits;
   called = λ i le li. absurd (omega (arith, le, li));
-  visits = search rules;
-  sum = search rules;
+  visits = omega arith;
+  sum = omega arith;
   made = sym (ap (λ ws. c.args.master.now.shows.raises ++ raised_by_all ws) (drop-length c.args.workers.items) ∙ append-nil c.args.master.now.shows.raises);
-  low = search rules;
+  low = omega arith;
 }
 
 pub note-requires-clause-place : goal.note-requires-clause-place
