@@ -24,7 +24,6 @@
 #![tactic(auto)]
 
 mod alone;
-mod clear;
 mod judge;
 pub mod laws;
 mod message;

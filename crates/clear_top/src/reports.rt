@@ -1,38 +1,59 @@
 //! What is shown of a network that was cleared by workers on a board.
 ghost use Rattle.clear_core.specs.Clearing.{least};
 ghost use Rattle.clear_core.specs.declared.event.Raise.{Raise};
-ghost use Rattle.clear_top.specs.Meaning.{bounds_report, clear_text, shown_of, summary_report};
+ghost use Rattle.clear_top.specs.Meaning.{Settles, bounds_report, clear_text, shown_of};
+ghost use Rattle.clear_top.specs.Meaning.{summary_report};
 ghost use Rattle.clear_top.specs.Outcome.{with_journal};
 ghost use Rattle.clr_net.specs.Lines.{line};
 ghost use Rattle.raise_journal.specs.Texts.{journal_header, rounds_line};
-ghost use Rattle.std.specs.Prelude.{◌≡◌, ◌++◌, IfOk, List, None, Some};
+ghost use Rattle.settle.specs.Runs.{IsSettled};
+ghost use Rattle.std.specs.Prelude.{◌≡◌, ◌++◌, [], IfOk, List, None, Some};
 
+use crate::outcome::Outcome;
 use clear_report::{
     bounds_text, least_default_text, least_standings, pay_text, rounds_text, summary_text,
 };
 use clear_words::{Job, Show, Task};
-use clr_edge::Text;
-use clr_net::{Mem, Network};
+use clr_edge::{Gate, Text};
+use clr_net::{MAX_BANKS, Mem, Network};
 use raise_journal::journal_head;
+use settle::{Engine, Settled};
 use std::alloc::Global;
 use upper::{Upper, upper};
 
-/// What is shown of a run: a text, and where the journal of the record is to be written below it,
-/// the line that closes it.
+// What is shown of a run: a text, and where the journal of the record is to be written below it,
+// the line that closes it.
 #[derive(Drop)]
-pub struct Showing {
-    pub text: Text,
-    pub closing: Option<Text>,
+struct Showing {
+    text: Text,
+    closing: Option<Text>,
 }
 
-/// What is shown of a run, by the task: a row for each that clears on one board.
-pub fn shown(
-    alloc: Global,
-    net: &Network,
+/// What a run from nothing paid comes to: its record, and what a job asks to be shown. `Mem` is
+/// want of memory.
+pub fn outcome_of<G: Gate>(
+    engine: &Engine<'_, G>,
+    settled: Settled,
     job: &Job,
-    paid: &[u64],
-    rounds: u64,
-) -> Result<Showing, Mem>
+) -> Result<Outcome, Mem>
+    requires { IsSettled settled.sealed.net [] engine.now.plan settled }
+    ensures { IfOk result (Settles settled.sealed.net engine.now.plan
+        (shown_of job.now.task job.now.show settled.sealed.net)) }
+{
+    let Settled {
+        paid,
+        sealed,
+        rounds,
+        ..
+    } = settled;
+    let net = sealed.net();
+    prove!(net.banks() <= MAX_BANKS);
+    let Showing { text, closing } = shown(engine.alloc, net, job, paid.as_slice(), rounds)?;
+    Ok(Outcome::with_record(sealed, text, closing))
+}
+
+// What is shown of a run, by the task: a row for each that clears on one board.
+fn shown(alloc: Global, net: &Network, job: &Job, paid: &[u64], rounds: u64) -> Result<Showing, Mem>
     requires { paid.now ≡ least net.now }
     ensures { IfOk result (λ s. (journal : List Raise)
         → with_journal net.now journal s.text s.closing

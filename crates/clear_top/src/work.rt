@@ -6,14 +6,14 @@ ghost use Rattle.clear_load.specs.declared.source.Source.{Source};
 ghost use Rattle.clear_top.specs.Ending.{Works};
 ghost use Rattle.clear_top.specs.Meaning.{ComesTo, plan_of};
 ghost use Rattle.clear_words.specs.Limits.{IsJob};
-ghost use Rattle.std.specs.Prelude.{◌≡◌, ◌≤◌, All, IfErr, IfOk, false, length};
+ghost use Rattle.std.specs.Prelude.{◌≡◌, ◌⊎◌, ◌≤◌, All, IfErr, IfOk, false, length};
 ghost use Rattle.stress.specs.Shocks.{IsScenarioOf};
 ghost use Rattle.stress.specs.declared.TheConstants.{MAX_SCENARIOS};
 
 use crate::alone::{bound_with_costs, cancel_cycles, check, clear_centrally, clear_with_costs};
-use crate::clear::report;
 use crate::judge::judge;
 use crate::outcome::Outcome;
+use crate::reports::outcome_of;
 use crate::saving::save;
 use clear_load::{
     LoadFault, Source, load_bank, load_generated, load_journal, load_network, load_scenarios,
@@ -25,7 +25,7 @@ use clear_words::{Job, Task};
 use clr_edge::{Gate, Shelf, Text};
 use clr_net::{Mem, Network};
 use net_csv::print_banks_2;
-use settle::{Engine, Plan};
+use settle::{Engine, Plan, settle_owned};
 use std::alloc::Global;
 use std::thread::Threads;
 use stress::Scenario;
@@ -69,13 +69,13 @@ pub fn work<R: Threads + Sync, F: Shelf, G: Gate + Sync>(
         }
         Source::Generated => {
             let net = load_generated(alloc, job)?;
-            Ok(report(rt, &engine, net, job)?)
+            Ok(work_on_network(rt, &engine, job, net)?)
         }
     }
 }
 
-// Does a task that works on the network of both files alone: a row for each, but one for those that
-// clear on one board.
+// Does a task that works on a network alone, of both files or one that was made: a row for each,
+// but one for those that clear on one board.
 fn work_on_network<R: Threads + Sync, G: Gate + Sync>(
     rt: &R,
     engine: &Engine<'_, G>,
@@ -83,7 +83,8 @@ fn work_on_network<R: Threads + Sync, G: Gate + Sync>(
     net: Network,
 ) -> Result<Outcome, Mem>
     requires job { IsJob job.now }
-    requires alone { source_of job.now.task ≡ Source.Files }
+    requires alone { (source_of job.now.task ≡ Source.Files)
+        ⊎ (source_of job.now.task ≡ Source.Generated) }
     requires plan { engine.now.plan ≡ plan_of job.now }
     ensures { IfOk result (ComesTo job.now.task job.now (alone net)) }
 {
@@ -98,7 +99,10 @@ fn work_on_network<R: Threads + Sync, G: Gate + Sync>(
         Task::Breaking => Outcome::plain(alloc, tell_breaking(rt, alloc, &net)?),
         Task::Impact => Ok(Outcome::of(Text::of_pieces(tell_impact(rt, alloc, &net)?))),
         Task::Rescues => Ok(Outcome::of(Text::of_pieces(tell_rescues(rt, alloc, &net)?))),
-        _ => report(rt, engine, net, job),
+        _ => {
+            let settled = settle_owned(rt, engine, net, &[])?;
+            outcome_of(engine, settled, job)
+        }
     }
 }
 

@@ -2,7 +2,7 @@
 use Rattle.std.proofs.Common.{◌≡◌, List, Option, Some, Ok, sym, ap, subst}
 use Rattle.clr_net.specs.Net.{Net}
 use Rattle.clear_core.specs.declared.event.Raise.{Raise}
-use Rattle.clear_load.proofs.Tasks.{gen_by, replay_by, rescue_by}
+use Rattle.clear_load.proofs.Tasks.{replay_by, rescue_by}
 use Rattle.clear_load.specs.Loading.{Gives}
 use Rattle.clear_load.specs.Reading.{Files, Input, Read, alone, reading_by}
 use Rattle.clear_load.specs.Sources.{source_of}
@@ -13,7 +13,7 @@ use Rattle.clear_words.specs.declared.task.Task.{Task}
 use Rattle.clear_words.specs.declared.task.Task.TheVariants as task
 use Rattle.net_gen.specs.Generated.{generated}
 use Rattle.raise_journal.specs.Verdicts.{judged}
-use Rattle.clear_top.specs.Meaning.{ComesTo, Settles, answer_to, plan_of, shown_of}
+use Rattle.clear_top.specs.Meaning.{ComesTo, answer_to}
 use Rattle.clear_top.specs.Outcome.{Outcome}
 use Rattle.clear_top.proofs.work.work.Goals as goal
 
@@ -23,12 +23,6 @@ gives_made : (files : Option Files) (job : Job) (net : Net) → source.Generated
 gives_made files job net is made told tells =
     let read : Net → Read Input = λ n. Some (Ok (alone n)) in
     subst (λ (s : Source). reading_by s told job ≡ read net) is (ap read (sym made))
-
--- what is reported of it is its summary
-made_comes : (job : Job) (net : Net) (o : Outcome) (t : Task) → t ≡ task.Gen
-    → Settles net (plan_of job) (shown_of t job.show net) o → ComesTo t job (alone net) o
-made_comes job net o task.Gen is told = told
-made_comes job net o t is told = absurd (cc)
 
 pub returns-in_ok-judge-in-FilesAndJournal-clause-works : goal.returns-in_ok-judge-in-FilesAndJournal-clause-works
 returns-in_ok-judge-in-FilesAndJournal-clause-works g c =
@@ -49,13 +43,10 @@ returns-in_ok-save-in-FilesAndBank-clause-works g c =
     let told = c.in_ok-save-in-FilesAndBank.ensures in
     (on, read.ensures.input, subst (λ (t : Task). ComesTo t c.args.job.now on o) (sym saves) told)
 
-pub returns-in_ok-report-in-Generated-clause-works : goal.returns-in_ok-report-in-Generated-clause-works
-returns-in_ok-report-in-Generated-clause-works g c =
-    let job = c.args.job.now in
-    let read = c.in_ok-net-in-Generated in
-    let makes = gen_by job.task (sym c.in-Generated.ensures) in
-    let told = c.in_ok-report-in-Generated.ensures in (
+pub returns-in_ok-work_on_network-in-Generated-clause-works : goal.returns-in_ok-work_on_network-in-Generated-clause-works
+returns-in_ok-work_on_network-in-Generated-clause-works g c =
+    let read = c.in_ok-net-in-Generated in (
       alone read.net,
-      gives_made (g.F.Shelf.files c.args.files.now) job read.net c.in-Generated.ensures read.ensures.input,
-      made_comes job read.net c.in_ok-report-in-Generated.field-0 job.task makes told,
+      gives_made (g.F.Shelf.files c.args.files.now) c.args.job.now read.net c.in-Generated.ensures read.ensures.input,
+      c.in_ok-work_on_network-in-Generated.ensures,
     )
