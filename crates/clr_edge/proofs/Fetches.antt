@@ -114,7 +114,3 @@ noted_elsewhere old new name fault.Mem h other differs = counted_same old new (h
 pub noted_rises : (old new : ShelfState) (name : List ℕ) (why : FetchFault) → IsNoted old new name why
     → why ≡ fault.Failed → HasRisen (fault_count old name) (fault_count new name)
 noted_rises old new name why h e = risen_at_name old.noted new.noted name (ap (λ (s : ShelfState). s.noted) (h.failed e))
-
--- what is seen of a shelf whose files came back as they were
-pub same_entries : (seen old : ShelfState) (entries : List (List ℕ × List ℕ)) → seen ≡ old → entries ≡ seen.entries → record seen { entries = entries } ≡ old
-same_entries seen old entries e p = ap (λ (es : List (List ℕ × List ℕ)). record seen { entries = es }) p ∙ e

@@ -18,3 +18,11 @@ loop-done-preserved g c =
       no_fall = omega (arith, before.no_fall, put.faults);
       well = λ alone. put.well alone ∙ before.well alone;
     }
+
+-- where all bytes were put nothing is said of a part
+pub returns-clause-part : goal.returns-clause-part
+returns-clause-part g c = tt
+
+-- nor of a fault
+pub returns-clause-failed : goal.returns-clause-failed
+returns-clause-failed g c = tt

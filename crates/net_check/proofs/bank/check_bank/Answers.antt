@@ -24,7 +24,7 @@ pub returns-in-Err-of-clause-refused : goal.returns-in-Err-of-clause-refused
 returns-in-Err-of-clause-refused c =
     let told : new_bank c.args.net.now (trimmed_field c.args.name.now) (trimmed_field c.args.cash.now) (trimmed_field c.args.rule.now)
     (option_map (λ f. trimmed_field f.now) c.args.outside)
-    ≡ Ok (record { name = c.trimmed-name.result.now; cash = c.in-Ok.cash; rule = c.in-Ok.rule; outside = c.in-Ok.outside }) = search rules in
+    ≡ Ok (record { name = trimmed_field c.args.name.now; cash = c.in-Ok.cash; rule = c.in-Ok.rule; outside = c.in-Ok.outside }) = search rules in
     no_fault_told file.Banks c.args.row _ _ _ told (λ x t. absurd (cc))
 
 pub returns-in-Err-clause-refused : goal.returns-in-Err-clause-refused

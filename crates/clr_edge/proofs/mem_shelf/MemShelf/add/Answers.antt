@@ -1,10 +1,6 @@
-use Rattle.std.proofs.Common.{[], ◌∷◌, ◌++◌, refl, sym, ◌∙◌, ap}
-use Rattle.std.proofs.lemmas.Result.{IfOk-from_err}
+use Rattle.std.proofs.Common.{[], ◌∷◌, ◌++◌, sym, ◌∙◌, ap}
 use Rattle.std.specs.List.{position}
 use Rattle.clr_edge.proofs.Names.{is_named, IsAdded, added_in_place, added_behind}
-use Rattle.clr_edge.specs.MemShelf.{ShelfState}
-use Rattle.clr_edge.proofs.Fetches.{same_entries}
-use Rattle.clr_edge.proofs.Pieces.{on_err}
 use Rattle.clr_edge.proofs.mem_shelf.MemShelf.add.Goals as goal
 
 pub returns-in-Some-clause-files : goal.returns-in-Some-clause-files
@@ -24,30 +20,3 @@ returns-in_ok-push-in-None-clause-files c =
     let added : IsAdded name c.args.bytes.now c.args.self.now.entries c.push.new.self.items =
     added_behind _ _ _ _ _ _ (λ i. (c.self.view_is i).entries) c.in_ok-copy.ensures.items none pushed in
     λ i other. added other i
-
-pub returns-in_err-copy-clause-files : goal.returns-in_err-copy-clause-files
-returns-in_err-copy-clause-files c = IfOk-from_err c.from_residual.result _ c.from_residual.ensures.0
-
-pub returns-in_err-copy-clause-err : goal.returns-in_err-copy-clause-err
-returns-in_err-copy-clause-err c = on_err c.from_residual.result refl
-
-pub returns-in_err-name-in-None-clause-files : goal.returns-in_err-name-in-None-clause-files
-returns-in_err-name-in-None-clause-files c = IfOk-from_err c.from_residual-in_err-name-in-None.result _ c.from_residual-in_err-name-in-None.ensures.0
-
-pub returns-in_err-name-in-None-clause-err : goal.returns-in_err-name-in-None-clause-err
-returns-in_err-name-in-None-clause-err c = on_err c.from_residual-in_err-name-in-None.result refl
-
-pub returns-in_err-push-in-None-clause-files : goal.returns-in_err-push-in-None-clause-files
-returns-in_err-push-in-None-clause-files c = IfOk-from_err c.from_residual-in_err-push-in-None.result _ c.from_residual-in_err-push-in-None.ensures.0
-
-pub returns-in_err-push-in-None-clause-err : goal.returns-in_err-push-in-None-clause-err
-returns-in_err-push-in-None-clause-err c = on_err c.from_residual-in_err-push-in-None.result (same_entries _ _ _ c.self.view_is c.in_err-push-in-None.ensures.items)
-
-pub returns-in_err-push-in-None-clause-only_entries_change : goal.returns-in_err-push-in-None-clause-only_entries_change
-returns-in_err-push-in-None-clause-only_entries_change c = ap (λ (s : ShelfState). record s { entries = c.push.new.self.items }) c.self.view_is
-
-pub returns-in-Some-clause-only_entries_change : goal.returns-in-Some-clause-only_entries_change
-returns-in-Some-clause-only_entries_change c = ap (λ (s : ShelfState). record s { entries = c.replace.new.files.items }) c.self.view_is
-
-pub returns-in_ok-push-in-None-clause-only_entries_change : goal.returns-in_ok-push-in-None-clause-only_entries_change
-returns-in_ok-push-in-None-clause-only_entries_change c = ap (λ (s : ShelfState). record s { entries = c.push.new.self.items }) c.self.view_is
