@@ -5,7 +5,7 @@ use Rattle.clr_net.specs.Net.{units_owed}
 use Rattle.clear_core.specs.declared.event.Raise.{Raise}
 use Rattle.pay_words.proofs.Tables.{set_both}
 use Rattle.pay_words.proofs.Views.{allowed}
-use Rattle.std.proofs.Common.{◌≡◌, ℕ, ◌+◌, ◌<◌, ◌≤◌, max, List, length, set, true, refl, sym, ap, ◌∙◌, subst, arith, le_trans, get_or-set_same, All}
+use Rattle.std.proofs.Common.{◌≡◌, ℕ, ◌+◌, ◌<◌, ◌≤◌, max, List, length, set, true, refl, sym, subst, arith, le_trans, All}
 use Rattle.std.proofs.lemmas.List.{set-get_or}
 use Rattle.std.specs.Prelude.{slice_index}
 use mathlib.Core.Option.{none}
@@ -98,7 +98,3 @@ looks d slots id me x over on lt to_me = allowed d slots id me (x + 1) (λ n. n)
           subst (λ (z : ℕ). (◌≡◌ {A = Me (Unit {0}) View} (showing v (looked v.shown x (payment_of n)), me.1)
           (showing v (looked v.shown z (payment_of n)), me.1)) × LookTells v.shown z (payment_of n)) same (refl, after.1),
     ))
-
--- the sight of a debt after a look at it
-pub sees : (s t : Shown) (x : ℕ) (p : Payment) → t ≡ looked s x p → x < length s.sights → slice_index t.sights x ≡ p.value
-sees s t x p e lt = ap (λ (u : Shown). slice_index u.sights x) e ∙ get_or-set_same s.sights x p.value 0 lt
