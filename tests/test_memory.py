@@ -15,7 +15,7 @@ NAME = "a_visit_without_memory_leaves_all_as_it_was"
 CRATE = ROOT / "crates/run_tests"
 
 # The first allocation of the first visit, as the code is today. Another number is found by going on from here.
-USUAL = 51
+USUAL = 47
 FARTHEST = 12
 SAID = "the first visit found no memory"
 

@@ -53,6 +53,8 @@ fn first_unmet<R: Threads + Clock + Sync>(
 // On networks of two debts, and of three debts a bank. Of 64 workers 30 have one of 30 banks each.
 const AT_FIRST: [Row; 30] = [
     (Begun::Settled, Sample::Chain, [2, 1], [0, 2, 2]),
+    (Begun::Driven, Sample::Chain, [2, 1], [0, 2, 2]),
+    (Begun::Resumed, Sample::Chain, [2, 1], [0, 2, 2]),
     (Begun::Settled, Sample::Woven(30), [2, 1], [0, 2, 2]),
     (Begun::Settled, Sample::Woven(30), [3, 1], [0, 3, 3]),
     (Begun::Settled, Sample::Woven(30), [8, 1], [0, 8, 8]),
@@ -74,13 +76,11 @@ const AT_FIRST: [Row; 30] = [
     (Begun::Settled, Sample::Woven(700), [64, 1], [0, 64, 64]),
     (Begun::Settled, Sample::Woven(1000), [2, 1], [0, 2, 2]),
     (Begun::Settled, Sample::Woven(1000), [64, 3], [0, 64, 64]),
-    (Begun::Driven, Sample::Chain, [2, 1], [0, 2, 2]),
     (Begun::Driven, Sample::TwoPairs, [3, 3], [0, 3, 3]),
     (Begun::Driven, Sample::Woven(30), [2, 1], [0, 2, 2]),
     (Begun::Driven, Sample::Woven(30), [8, 3], [0, 8, 8]),
     (Begun::Driven, Sample::Woven(700), [64, 1], [0, 64, 64]),
     (Begun::Driven, Sample::Woven(1000), [64, 1], [0, 64, 64]),
-    (Begun::Resumed, Sample::Chain, [3, 1], [0, 3, 3]),
     (Begun::Resumed, Sample::Woven(700), [8, 1], [0, 8, 8]),
 ];
 
