@@ -1,13 +1,14 @@
 #!/bin/sh
 # Where the time of a build goes: how long each crate takes to be proved from nothing, and its library to be made.
 #
-#   bench/build.sh [--slow N] [CRATE..]
+#   bench/build.sh [--tests] [--edits] [--slow N] [CRATE..]
 #
-# In:   crates of crates.txt, or none for all. With --slow N the N functions and files of lemmas of each crate that took longest are told
-#       below its line, with their seconds.
+# In:   crates of crates.txt, or none for all. With --tests the proofs of each crate's tests are measured too, with --edits its edits that
+#       must be refused. With --slow N the N functions and files of lemmas of each crate that took longest are told below its line, with
+#       their seconds.
 # Out:  a line for each crate, lowest first: what was done, seconds, processor seconds, the most memory in MB, and lines of code and of
-#       proofs; and a line with the sums. Crates below those that are named are built first and not told. What tests and edits take the
-#       gate tells at its end.
+#       proofs; and a line with the sums. Crates below those that are named are built first and not told. Last, where more than proofs
+#       were measured, a table as tools/dev/gate.py has it: minutes of a processor by crate, for proofs with libraries, tests and edits.
 #
 # Works on a copy of the sources in a temporary folder, one job at a time, and leaves the repository's own work alone. A check begins
 # with what checks in other checkouts on this machine kept: that is hidden from this run, where mounts of its own are allowed. Else a
@@ -15,7 +16,7 @@
 # Ends with 0, with 1 where a proof fails, and with 2 where the words are not understood.
 case "${1:-}" in
 --help | -h)
-    sed -n '2,15s/^# \{0,1\}//p' "$0" || exit 1
+    sed -n '2,16s/^# \{0,1\}//p' "$0" || exit 1
     exit 0
     ;;
 esac
@@ -27,6 +28,8 @@ fail() {
     exit "${2:-1}"
 }
 
+tests=
+edits=
 slow=
 named=
 for word in "$@"; do
@@ -36,6 +39,8 @@ for word in "$@"; do
         continue
     fi
     case $word in
+    --tests) tests=yes ;;
+    --edits) edits=yes ;;
     --slow) slow=next ;;
     -*) fail "no option $word" 2 ;;
     *)
@@ -116,7 +121,27 @@ for name in $(needed); do
     if [ -n "$named" ]; then case "$named " in *" $name "*) ;; *) tell= ;; esac; fi
     measured "$name" proofs "$tell" rt check --jobs 1
     if [ -n "$slow" ] && [ -n "$tell" ]; then slowest "$name"; fi
+    if [ -n "$tests" ] && [ -n "$tell" ] && grep -rq '#\[test\]' "$work/crates/$name/src"; then
+        measured "$name" tests "$tell" rt check --test --jobs 1
+    fi
     if grep -q "[: ]$name\( \|$\)" "$work/crates.txt"; then measured "$name" library "$tell" rt lib; fi
+    if [ -n "$edits" ] && [ -n "$tell" ] && [ -d "$work/crates/$name/must-fail" ]; then
+        # shellcheck disable=SC2016
+        measured "$name" edits "$tell" sh -c 'cd ../.. && exec rt must-fail "$1"' sh "$name"
+    fi
 done
 [ -z "$begun" ] || echo "*: begun with what a check in another checkout kept, so not measured from nothing"
 awk '{ seconds += $3; processor += $4 } END { printf "%-14s %-8s %8.1f %9.1f\n", "all", "", seconds, processor }' "$work/table"
+[ -n "$tests$edits" ] || exit 0
+echo
+awk '
+    { place = $2 ~ /^tests/ ? 2 : $2 ~ /^edits/ ? 3 : 1; took[$1, place] += $4 / 60; if (!($1 in rows)) { rows[$1]; names[++count] = $1 } }
+    function row(name,  i, sum) {
+        for (i = 1; i <= 3; i++) { sum += took[name, i]; all[i] += took[name, i] }
+        printf "%-24s%8.2f%8.2f%8.2f%8.2f\n", name, took[name, 1], took[name, 2], took[name, 3], sum
+    }
+    END {
+        printf "%-24s%8s%8s%8s%8s\n", "minutes of a processor", "proof", "tests", "edits", "all"
+        for (i = 1; i <= count; i++) row(names[i])
+        printf "%-24s%8.2f%8.2f%8.2f%8.2f\n", "all", all[1], all[2], all[3], all[1] + all[2] + all[3]
+    }' "$work/table"

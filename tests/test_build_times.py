@@ -40,7 +40,9 @@ class BuildTimes(Case):
         for name in ("top", "low", "beside"):
             (self.root / "crates" / name / "src").mkdir(parents=True)
             (self.root / "crates" / name / "out").mkdir()
-            (self.root / "crates" / name / "src/lib.rt").write_text("\n")
+            (self.root / "crates" / name / "src/lib.rt").write_text(
+                "#[test]\nfn shows() {}\n" if name == "top" else "\n"
+            )
 
     def run_with(self, *words, faulty="", **more):
         self.calls = self.file("calls", "")
@@ -62,16 +64,44 @@ class BuildTimes(Case):
         return done, self.calls.read_text().splitlines()
 
     def test_crates_are_measured_lowest_first_on_a_copy(self):
-        done, calls = self.run_with()
+        done, calls = self.run_with("--tests")
         self.assertEqual((done.returncode, done.stderr), (0, ""))
-        self.assertEqual(calls, ["low: check --jobs 1", "low: lib", "top: check --jobs 1", "beside: check --jobs 1"])
-        lines = done.stdout.splitlines()
         self.assertEqual(
-            [line.split()[:2] for line in lines[1:-1]],
-            [["low", "proofs"], ["low", "library"], ["top", "proofs"], ["beside", "proofs"]],
+            calls,
+            [
+                "low: check --jobs 1",
+                "low: lib",
+                "top: check --jobs 1",
+                "top: check --test --jobs 1",
+                "beside: check --jobs 1",
+            ],
         )
-        self.assertEqual(lines[-1].split()[0], "all")
+        lines, _, table = done.stdout.partition("\n\n")
+        self.assertEqual(
+            [line.split()[:2] for line in lines.splitlines()[1:-1]],
+            [["low", "proofs"], ["low", "library"], ["top", "proofs"], ["top", "tests"], ["beside", "proofs"]],
+        )
+        self.assertEqual(lines.splitlines()[-1].split()[0], "all")
+        self.assertEqual([line.split()[0] for line in table.splitlines()], ["minutes", "low", "top", "beside", "all"])
         self.assertNotIn(str(self.root), (self.folder / "calls.places").read_text())
+
+    def test_edits_are_a_column_of_the_table(self):
+        (self.root / "crates/top/must-fail").mkdir()
+        (self.root / "crates/top/must-fail/one.edit").write_text("file: src/lib.rt\nold: shows\nnew: hides\n")
+        spent = (
+            TOOLCHAIN
+            + 'if [ "$1" = must-fail ]; then [ -e "crates/$2/must-fail/one.edit" ] && awk "BEGIN { while (i++ <'
+            ' 60000000) ; }"; fi\n'
+        )
+        self.file("bin/rt", spent).chmod(0o755)
+        done, calls = self.run_with("--edits", "top")
+        self.assertEqual((done.returncode, done.stderr), (0, ""))
+        self.assertEqual(len([call for call in calls if call.endswith(": must-fail top")]), 1)
+        rows = {line.split()[0]: line.split()[1:] for line in done.stdout.partition("\n\n")[2].splitlines()}
+        proof, tests, edits, both = map(float, rows["top"])
+        self.assertEqual((proof, tests), (0, 0))
+        self.assertGreater(edits, 0)
+        self.assertEqual((edits, rows["all"]), (both, rows["top"]))
 
     def test_what_is_named_is_told_and_what_is_below_built(self):
         done, calls = self.run_with("top")
