@@ -107,6 +107,31 @@ class Changes(DeskPage):
         self.click("undo")
         is_at(3)
 
+    def test_an_answer_that_comes_late_is_not_shown(self):
+        self.open()
+        shown = self.picture()
+        for number, cut in ((1, 500), (2, 900)):
+            self.slide("cut", cut)
+            self.until_state(number)
+        # The answer to the first step back comes when that to the second was shown.
+        self.js(
+            """const ask = window.fetch; let isFirst = true; window.late = 0;
+            window.fetch = (path, ...words) => {
+                const answer = ask(path, ...words);
+                if (!isFirst || !String(path).startsWith("state/")) return answer;
+                isFirst = false;
+                return answer.then(found => new Promise(done => setTimeout(() => {
+                    done(found);
+                    setTimeout(() => window.late = 1, 300);
+                }, 1500)));
+            }"""
+        )
+        self.click("undo")
+        self.click("undo")
+        self.until_state(0)
+        self.until(lambda: self.js("return window.late"))
+        self.assertEqual((self.state(), self.picture()), (0, shown))
+
     def test_a_scenario_and_what_default_keeps(self):
         self.open(None, "--scenarios", SCENARIOS)
         self.assertEqual(

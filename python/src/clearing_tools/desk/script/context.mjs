@@ -62,6 +62,7 @@ export class Context {
   /** The state, or the other case, that it is held against. @type {import("./othercase.mjs").Held} */
   against = null;
   againstKey = "state-0"; // which one that is, as the list names it
+  askedKey = "state-0"; // which one was asked for last
   line = new Line([]); // the states one after another, for undo and redo
   /** The states that have a name. @type {{name: string, state: number, note: string}[]} */
   kept = [];

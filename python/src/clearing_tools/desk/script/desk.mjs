@@ -263,12 +263,15 @@ export class Desk extends Context {
     if (this.line.after !== undefined) this.seeState(this.line.redo());
   }
 
-  /** Asks for a state, and shows it. */
+  /**
+   * Asks for a state, and shows it where it is still the one at hand when the answer comes.
+   * @param {number} state
+   */
   async seeState(state) {
     const { value, fault } = await see(`state/${state}`);
     if (fault) {
       this.trouble(fault);
-    } else {
+    } else if (state === this.line.now) {
       this.show(value);
     }
   }
@@ -280,11 +283,14 @@ export class Desk extends Context {
   async holdAgainst(key) {
     const [kind, place] = key.split("-");
     const isCase = kind === "case";
+    this.askedKey = key;
     const { value, fault } = await see(`${isCase ? "other" : "state"}/${place}`);
     if (fault) {
       this.trouble(fault);
       return;
     }
+    // Another was asked for meanwhile.
+    if (this.askedKey !== key) return;
     this.againstKey = key;
     this.against = isCase ? fromCase(value, Number(place), this.network, this.pairs) : value;
     keepingFocus(() => {
