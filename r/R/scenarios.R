@@ -12,13 +12,12 @@ losses <- function(name, cut = 0, ...) {
 
 # A scenario as lines of TOML.
 scenario_lines <- function(scenario) {
-  one <- function(bank) {
-    amount <- whole_text(scenario$losses[[bank]], bank)
-    c("[[scenario.loss]]", paste("bank =", quoted(bank)), paste("amount =", amount))
+  one <- function(bank, amount) {
+    c("[[scenario.loss]]", paste("bank =", quoted(bank)), paste("amount =", whole_text(amount, bank)))
   }
   cut <- whole_text(or(scenario$cut, 0), "cut")
   c("[[scenario]]", paste("name =", quoted(scenario$name)), paste("cut =", cut),
-    unlist(lapply(names(scenario$losses), one)), "")
+    unlist(Map(one, names(scenario$losses), scenario$losses), use.names = FALSE), "")
 }
 
 # The words that name a scenarios file: one that is there, or one that is written for a list of `losses`.

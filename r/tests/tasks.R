@@ -73,6 +73,13 @@ test_with_program("scenarios take cash away", {
 
 test("a loss without the name of its bank is refused", expect_fault(losses("x", 0, 7), "has the name of its bank"))
 
+test("each loss stands in the file with its own amount, also where two are of one bank", {
+  expect_same(clearing:::scenario_lines(losses("\"x\"", 10, A = 7, A = 3)),
+              c("[[scenario]]", "name = \"\\\"x\\\"\"", "cut = 10",
+                "[[scenario.loss]]", "bank = \"A\"", "amount = 7",
+                "[[scenario.loss]]", "bank = \"A\"", "amount = 3", ""))
+})
+
 test_with_program("estates are exact beyond a million million", {
   large <- bank_network(data.frame(name = c("A", "B"), cash = c(1e12, 0)),
                         data.frame(debtor = "A", creditor = "B", claim = 1e6))
