@@ -29,6 +29,7 @@ as_case <- function(network, document, labels, paths, notes, sheets = character(
   structure(parts, class = "bank_case")
 }
 
+# What is stated of a case, what is to be told of it, and how large its network is.
 print.bank_case <- function(x, ...) {
   cat(sprintf("<case %s>\n", if (nzchar(x$title)) x$title else "without a title"))
   for (name in c("as_of", "test", "currency", "unit")) cat(sprintf("%-9s%s\n", name, or(x[[name]], "not stated")))

@@ -7,14 +7,18 @@ INNER_KEYS <- list(
   from = c("title", "hashes", "changes")
 )
 
+# Whether a value is one text of a pattern.
 is_text <- function(value, pattern) is.character(value) && length(value) == 1 && grepl(pattern, value)
 
+# Whether a value is a day of the calendar.
 is_date <- function(value) {
   is_text(value, "^[0-9]{4}-[0-9]{2}-[0-9]{2}$") && !is.na(as.Date(value, optional = TRUE))
 }
 
+# Whether a value is an exact decimal above 0, as a text.
 is_unit <- function(value) is_text(value, "^[0-9]{1,40}([.][0-9]{1,40})?$") && grepl("[1-9]", value)
 
+# Whether a value is a whole number of thousandths.
 is_keep <- function(value) is.numeric(value) && value >= 0 && value <= 1000 && value == floor(value)
 
 # What stands under our key is of its form; fails with the key.

@@ -30,6 +30,7 @@ behind <- function(tokens, at, wanted) {
   at + 1L
 }
 
+# Any value, which stands so many brackets deep.
 json_value <- function(tokens, at, depth) {
   if (depth > MAX_DEPTH) fail(sprintf("JSON that nests deeper than %d", MAX_DEPTH))
   token <- token_at(tokens, at)

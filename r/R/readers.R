@@ -12,21 +12,26 @@ reader_of <- function(task, tables, more = character(0)) {
 COUNTS <- c("banks", "debts", "owed", "cash")
 GENERATED <- c(COUNTS, "paid", "defaults", "equity")
 
+# Counts, and both tables as the program reads them.
 read_check <- function(lines) {
   parts <- parts_of(lines, 3)
   result("check", list(totals = counts_of(COUNTS, parts[[1]]), banks = table_of("banks", parts[[2]]),
                        debts = table_of("debts", parts[[3]])))
 }
 
+# Counts and sums of a network that was made from a number.
 read_generated <- function(lines) result("gen", list(totals = counts_of(GENERATED, lines)))
 
+# Payments, and the journal by which a run came to them.
 read_both <- function(lines) {
   parts <- parts_of(lines, 2)
   result("clear", c(list(payments = table_of("payments", parts[[1]])), journal_of(parts[[2]])), "clearing_payments")
 }
 
+# A journal alone.
 read_journal <- function(lines) result("clear", journal_of(lines))
 
+# Standings and their sums.
 read_defaults <- function(lines) result("defaults", with_sums("standings", lines))
 
 # A part for each scenario.
@@ -67,6 +72,7 @@ read_replay <- function(lines) {
   result("replay", list(verdict = verdict, where = as.data.frame(setNames(values, where), stringsAsFactors = FALSE)))
 }
 
+# The sum that saves a bank, what it lacks with a unit less, and the payments with that sum.
 read_rescue <- function(lines) {
   parts <- parts_of(lines, 2)
   first <- fields_in(parts[[1]][1])
@@ -75,12 +81,14 @@ read_rescue <- function(lines) {
                         payments = table_of("payments", parts[[2]])), "clearing_payments")
 }
 
+# Payments where default costs, with the standings and their sums.
 read_costs <- function(lines) {
   parts <- parts_of(lines, 2)
   result("costs", c(list(payments = table_of("payments", parts[[1]])), with_sums("cost_standings", parts[[2]])),
          "clearing_payments")
 }
 
+# The debts that are left, the ranks, and what was cancelled.
 read_compress <- function(lines) {
   parts <- parts_of(lines, 2)
   last <- length(parts[[2]])

@@ -1,5 +1,6 @@
 # What a task gave, printed and summed up.
 
+# The first rows of each table, and single values as they are.
 print.clearing_result <- function(x, ...) {
   cat(sprintf("<%s>\n", attr(x, "task")))
   for (name in names(x)) {
@@ -15,6 +16,7 @@ print.clearing_result <- function(x, ...) {
   invisible(x)
 }
 
+# The sums of a result: those that the program gives, else those of its payments, else how long its tables are.
 summary.clearing_result <- function(object, ...) {
   if (is.data.frame(object$totals)) return(object$totals)
   if (is.data.frame(object$payments)) {

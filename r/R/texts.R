@@ -57,6 +57,7 @@ values_of <- function(kind, text) {
   text
 }
 
+# The fields of a line.
 fields_in <- function(line) strsplit(line, ",", fixed = TRUE)[[1]]
 
 # The headers that a table may have: with its optional columns, and without.
@@ -82,6 +83,7 @@ parts_of <- function(lines, count) {
   parts
 }
 
+# The parts of a text, however many there are.
 split_parts <- function(lines) {
   part <- cumsum(lines == "")
   lapply(unname(split(lines, part)), function(one) one[one != ""])

@@ -8,7 +8,8 @@ output rightly is tested. A network is made of data frames by \code{\link{bank_n
 \code{\link{defaults}}, \code{\link{stress}} and others.}
 \details{All amounts are whole units of account. R has whole numbers exactly up to \eqn{2^{53}}{2^53}, and what is
 greater is an error. The program is the one that the environment variable \code{CLEARING} names, else
-\command{clearing} on the path. A fault of it is a condition of the class \code{clearing_error}, with the program's message and its \code{status}.}
+\command{clearing} on the path. A fault of it is a condition of the class \code{clearing_error}, with the
+program's message and its \code{status}.}
 \references{
 Csóka, P., and Herings, P. J.-J. (2018). Decentralized clearing in financial networks. \emph{Management Science}
 64(10), 4681--4699.

@@ -17,9 +17,9 @@ test("an empty object has names, and an empty array has none", {
 })
 
 test("escapes are read from left to right", {
-  texts <- c("\"\\u00e9 \\ud83d\\ude00\"" = "\u00e9 \U0001f600", "\"\\\\n\\n\"" = "\\n\n",
-             "\"\u00fc\\\"\\/\\t\"" = "\u00fc\"/\t", "\"\"" = "")
-  for (text in names(texts)) expect_same(read_json(text), texts[[text]])
+  pairs <- list(c("\"\\u00e9 \\ud83d\\ude00\"", "\u00e9 \U0001f600"), c("\"\\\\n\\n\"", "\\n\n"),
+                c("\"\u00fc\\\"\\/\\t\"", "\u00fc\"/\t"), c("\"\"", ""))
+  for (pair in pairs) expect_same(read_json(pair[1]), pair[2])
 })
 
 test("what is no JSON is refused", {
