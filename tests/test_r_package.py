@@ -47,6 +47,20 @@ def has(package):
     return not subprocess.run(["Rscript", "-e", f"library({package})"], capture_output=True).returncode
 
 
+# The scripts of the package's own tests, which R runs one by one.
+TESTS = sorted((PACKAGE / "tests").glob("*.R"))
+
+
+def named(script):
+    """The names of the tests in a script."""
+    return re.findall(r'(?m)^test(?:_with_program)?\("(.*?)"', script.read_text(encoding="utf-8"))
+
+
+def passed(printed):
+    """The names of the tests that passed."""
+    return re.findall("(?m)^passed: (.*)$", printed)
+
+
 # What R's checks ask other machines for: an index of packages, and the time.
 ALONE = {"_R_CHECK_CRAN_INCOMING_": "false", "_R_CHECK_SYSTEM_CLOCK_": "false"}
 
@@ -94,12 +108,21 @@ class Package(Case):
         self.has_knitr()
         told = ran("R", "CMD", "check", "--as-cran", "--no-manual", archive(), folder=self.folder)
         self.assertRegex(told, r"(?m)^Status: OK$")
-        for line in (
-            "Running \u2018tasks.R\u2019",
-            "checking examples ... OK",
-            "checking re-building of vignette outputs ... OK",
-        ):
-            self.assertIn(line, told)
+        for step in ("checking examples", "checking re-building of vignette outputs"):
+            # A step that takes long is told with its time.
+            self.assertRegex(told, rf"{step} \.\.\.( \[.*\])? OK")
+        for script in TESTS:
+            self.assertIn(f"Running \u2018{script.name}\u2019", told)
+            printed = (self.folder / "clearing.Rcheck/tests" / f"{script.name}out").read_text(encoding="utf-8")
+            self.assertEqual(passed(printed), named(script), printed)
+
+    def test_its_tests_tell_what_they_skip_where_there_is_no_program(self):
+        """The others run."""
+        script = PACKAGE / "tests/networks.R"
+        printed = ran("Rscript", script, folder=script.parent, libraries=library().name, CLEARING="none")
+        skipped = re.findall("(?m)^SKIPPED, as there is no program: (.*)$", printed)
+        self.assertEqual(skipped, ["the program reads a network by its limits"])
+        self.assertEqual(passed(printed), [name for name in named(script) if name not in skipped])
 
     def test_its_vignette_is_a_page_that_asks_nobody_for_more(self):
         self.has_knitr()

@@ -49,6 +49,15 @@ hash_of <- function(file) {
   paste0("sha256:", sub("^\\\\?([0-9a-f]{64}).*$", "\\1", told[1]))
 }
 
+# What a description says; nothing where there is none.
+read_description <- function(file) {
+  if (is.null(file)) return(setNames(list(), character(0)))
+  document <- read_json(paste(read_lines(file), collapse = "\n"))
+  if (!is.list(document) || is.null(names(document))) fail(sprintf("%s is no object of JSON", DESCRIPTION))
+  check_described(document[["clearing"]])
+  document
+}
+
 # The case in a folder, with what is to be told of its files in `notes`.
 read_case <- function(folder) {
   if (!dir.exists(folder)) fail(sprintf("%s is no folder", folder), 3L)
@@ -59,21 +68,24 @@ read_case <- function(folder) {
     if (is.null(paths[[what]])) fail(sprintf("%s has no %s, and is no case", folder, CASE_FILES[[what]]))
   }
   described <- own_file(folder, DESCRIPTION)
-  document <- setNames(list(), character(0))
-  if (!is.null(described)) document <- read_json(paste(read_lines(described), collapse = "\n"))
-  if (!is.list(document) || is.null(names(document))) fail(sprintf("%s is no object of JSON", DESCRIPTION))
-  check_described(document$clearing)
-  sheets <- in_order_of(sheets_in(folder), document$resources)
+  document <- read_description(described)
+  sheets <- in_order_of(sheets_in(folder), document[["resources"]])
   labels <- if (is.null(paths$labels)) NULL else read_labels(paths$labels)
   notes <- if (is.null(described)) character(0) else notes_of(document, folder, paths)
-  said <- if (identical(document$clearing$limits, "wide")) "wide" else NULL
+  said <- if (identical(document[["clearing"]][["limits"]], "wide")) "wide" else NULL
   as_case(read_network(paths$banks, paths$debts, said), document, labels, paths, notes, sheets)
+}
+
+# The path of a resource, or no text where it has none.
+path_of <- function(resource) {
+  path <- if (is.list(resource)) resource[["path"]]
+  if (is.character(path)) path else ""
 }
 
 # Sheets in the order in which a description has them, and behind these those that it has not.
 in_order_of <- function(sheets, resources) {
   if (!length(sheets)) return(sheets)
-  described <- vapply(resources, function(one) if (is.list(one) && is.character(one$path)) one$path[1] else "", "")
+  described <- vapply(resources, path_of, "")
   sheets[order(match(paste0(SHEETS, "/", names(sheets)), described, nomatch = length(described) + 1L))]
 }
 
@@ -87,6 +99,7 @@ unknown_keys <- function(ours) {
   found
 }
 
+# The labels of banks, whose columns are all texts.
 read_labels <- function(file) {
   table <- tryCatch(
     utils::read.csv(file, colClasses = "character", na.strings = character(0), encoding = "UTF-8", check.names = FALSE),
@@ -98,25 +111,27 @@ read_labels <- function(file) {
   table
 }
 
+# What is to be told of a resource, which is a file below the folder.
+note_of <- function(resource, folder) {
+  path <- resource[["path"]]
+  if (!is.character(path) || !is_inside(path)) {
+    fail(sprintf("%s: a resource has a path that is not below the folder", folder))
+  }
+  file <- own_file(folder, path)
+  if (is.null(file)) return(sprintf("%s is described, and is not there", path))
+  hash <- resource[["hash"]]
+  if (is.null(hash) || identical(or(hash_of(file), hash), hash)) return(character(0))
+  sprintf("%s is not the file that was described", path)
+}
+
 # What is to be told of a folder with a description.
 notes_of <- function(document, folder, paths) {
-  told <- character(0)
-  described <- character(0)
-  for (resource in document$resources) {
-    path <- resource$path
-    if (is.null(path)) next
-    if (!is.character(path) || !is_inside(path)) {
-      fail(sprintf("%s: a resource has a path that is not below the folder", folder))
-    }
-    described <- c(described, path)
-    file <- own_file(folder, path)
-    if (is.null(file)) {
-      told <- c(told, sprintf("%s is described, and is not there", path))
-    } else if (!is.null(resource$hash) && !identical(or(hash_of(file), resource$hash), resource$hash)) {
-      told <- c(told, sprintf("%s is not the file that was described", path))
-    }
-  }
+  resources <- document[["resources"]]
+  if (!all(vapply(resources, is.list, NA))) fail(sprintf("%s: a resource is no object", folder))
+  resources <- Filter(function(resource) !is.null(resource[["path"]]), resources)
+  told <- unlist(lapply(resources, note_of, folder))
+  described <- vapply(resources, path_of, "")
   left <- setdiff(basename(unlist(paths)), described)
-  unknown <- substr(unknown_keys(document$clearing), 1, 80)
+  unknown <- substr(unknown_keys(document[["clearing"]]), 1, 80)
   c(told, sprintf("%s is not described", left), sprintf("the key %s is unknown", unknown))
 }

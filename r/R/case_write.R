@@ -53,11 +53,12 @@ move_into <- function(part, folder, rename = file.rename) {
   if (!is.null(kept)) unlink(kept, recursive = TRUE)
 }
 
+# Writes the labels of banks, with quotes where a field needs them.
 write_labels <- function(labels, file) {
-  quoted <- function(column) {
+  field <- function(column) {
     inner <- gsub("\"", "\"\"", column, fixed = TRUE)
     ifelse(grepl("[\",\n\r]", column), paste0("\"", inner, "\""), column)
   }
-  rows <- lapply(LABEL_COLUMNS, function(name) quoted(enc2utf8(or(labels[[name]], rep("", nrow(labels))))))
+  rows <- lapply(LABEL_COLUMNS, function(name) field(enc2utf8(or(labels[[name]], rep("", nrow(labels))))))
   write_text(c(paste(LABEL_COLUMNS, collapse = ","), joined(rows)), file)
 }

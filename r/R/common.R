@@ -20,3 +20,26 @@ is_link <- function(path) {
   target <- Sys.readlink(path)
   !is.na(target) && nzchar(target)
 }
+
+# The lines of a file, in UTF-8, whatever the locale has.
+read_lines <- function(file) {
+  size <- file.size(file)
+  if (is.na(size) || size == 0) return(character(0))
+  whole <- rawToChar(readBin(file, "raw", size))
+  Encoding(whole) <- "UTF-8"
+  strsplit(whole, "\n", fixed = TRUE)[[1]]
+}
+
+# Writes a text as it is, in UTF-8.
+write_text <- function(lines, file) {
+  writeBin(charToRaw(enc2utf8(paste0(lines, "\n", collapse = ""))), file)
+}
+
+# A text in double quotes, as JSON and TOML both have it.
+quoted <- function(text) {
+  text <- gsub("\\", "\\\\", enc2utf8(text), fixed = TRUE)
+  text <- gsub("\"", "\\\"", text, fixed = TRUE)
+  text <- gsub("\n", "\\n", text, fixed = TRUE)
+  for (code in c(1:9, 11:31, 127)) text <- gsub(intToUtf8(code), sprintf("\\u%04x", code), text, fixed = TRUE)
+  paste0("\"", text, "\"")
+}

@@ -1,7 +1,5 @@
 # Networks: two data frames, kept as the two files that the program reads.
 
-RULES <- c("order", "equal", "losses", "jefferson", "webster", "adams")
-
 # Whole amounts of at least 0 as text; fails at what is not one, with the name of the column.
 whole_text <- function(values, column) {
   if (is.factor(values)) values <- as.character(values)
@@ -24,16 +22,17 @@ column_or <- function(frame, name, default) {
   if (is.null(frame[[name]])) rep(default, length.out = nrow(frame)) else frame[[name]]
 }
 
-# Names as the files have them; fails at what would be another field or line.
+# Names, or words such as a rule, as the files have them; fails at what would be another field or line.
 name_text <- function(values, column) {
   values <- enc2utf8(as.character(values))
   wrong <- is.na(values) | grepl("[\",\n\r]", values)
   if (any(wrong)) {
-    fail(sprintf("%s, row %d: a name has a comma, a quote or a line end, or is missing", column, which(wrong)[1]))
+    fail(sprintf("%s, row %d: the text has a comma, a quote or a line end, or is missing", column, which(wrong)[1]))
   }
   values
 }
 
+# Fails where a data frame is none, or lacks a column.
 needed <- function(frame, columns, what) {
   if (!is.data.frame(frame)) fail(sprintf("%s is no data frame", what))
   missing <- setdiff(columns, names(frame))
@@ -44,19 +43,31 @@ needed <- function(frame, columns, what) {
 bank_network <- function(banks, debts, rule = "webster", class = 1, limits = NULL) {
   needed(banks, c("name", "cash"), "banks")
   needed(debts, c("debtor", "creditor", "claim"), "debts")
-  outside <- whole_text(column_or(banks, "outside", 0), "outside")
-  is_second <- !is.null(banks[["outside"]])
-  fields <- list(name_text(banks$name, "name"), whole_text(banks$cash, "cash"),
-                 as.character(column_or(banks, "rule", rule)))
-  if (is_second) fields <- c(fields, list(outside))
-  header <- if (is_second) "name,cash,rule,outside" else "name,cash,rule"
-  rows <- list(name_text(debts$debtor, "debtor"), name_text(debts$creditor, "creditor"),
-               whole_text(column_or(debts, "class", class), "class"), whole_text(debts$claim, "claim"))
-  as_network(c(header, joined(fields)), c("debtor,creditor,class,claim", joined(rows)), limits)
+  banks$rule <- column_or(banks, "rule", rule)
+  debts$class <- column_or(debts, "class", class)
+  as_network(file_of("banks", banks), file_of("debts", debts), limits)
+}
+
+# The lines of a file with the columns of a table, of which a data frame may lack the optional ones.
+file_of <- function(table, frame) {
+  texts <- texts_of(table, frame)
+  c(paste(names(texts), collapse = ","), joined(texts))
+}
+
+# The columns of a table, out of a data frame, as texts.
+texts_of <- function(table, frame) {
+  kinds <- TABLES[[table]]
+  columns <- names(kinds)[!names(kinds) %in% setdiff(OPTIONAL, names(frame))]
+  text_of <- function(column) {
+    if (kinds[[column]] == "amount") whole_text(frame[[column]], column) else name_text(frame[[column]], column)
+  }
+  setNames(lapply(columns, text_of), columns)
 }
 
 # The fields of rows with commas between; no row where there is none.
-joined <- function(fields) if (length(fields[[1]])) do.call(paste, c(fields, sep = ",")) else character(0)
+joined <- function(fields) {
+  if (length(fields[[1]])) do.call(paste, c(unname(fields), sep = ",")) else character(0)
+}
 
 # What the standard limits have; the wide ones are the program's to judge.
 STANDARD <- c(banks = 1000, debts = 20000, owed = 10000000, bytes = 8388608)
@@ -102,15 +113,21 @@ read_network <- function(banks, debts, limits = NULL) {
 
 # Writes the two files of a network.
 write_network <- function(network, banks, debts) {
-  write_text(network$banks_file, banks)
-  write_text(network$debts_file, debts)
+  files <- network_of(network)
+  write_text(files$banks_file, banks)
+  write_text(files$debts_file, debts)
   invisible(network)
+}
+
+# The network of a case, or one itself; fails at anything else.
+network_of <- function(network) {
+  if (inherits(network, "bank_case")) network <- network$network
+  if (!inherits(network, "bank_network")) fail("the first argument is neither a network nor a case")
+  network
 }
 
 # Calls a function with the names of the network's two files, which are there as long as it runs.
 with_files <- function(network, call) {
-  if (inherits(network, "bank_case")) network <- network$network
-  if (!inherits(network, "bank_network")) fail("the first argument is neither a network nor a case")
   folder <- tempfile("clearing-")
   dir.create(folder, mode = "0700")
   on.exit(unlink(folder, recursive = TRUE))
@@ -118,6 +135,8 @@ with_files <- function(network, call) {
   write_network(network, files[1], files[2])
   call(files[1], files[2], folder)
 }
+
+# Showing
 
 print.bank_network <- function(x, ...) {
   count <- function(lines) max(0, length(lines) - 1)

@@ -8,8 +8,10 @@ heading <- function(told) {
   mtext(told, line = 1, at = grconvertX(0.5, "nfc", "user"), font = 2, cex = par("cex") * heading_size(told))
 }
 
+# How large a title is: no larger than others, and as wide as the picture at most.
 heading_size <- function(told) min(1.2, 0.96 / strwidth(told, "figure", cex = 1, font = 2))
 
+# Payments: a bar for each debtor, those first that leave most unpaid.
 plot.clearing_payments <- function(x, ..., most = 20) {
   if (!is.data.frame(x$payments) || !nrow(x$payments)) {
     plot(0, type = "n", axes = FALSE, xlab = "", ylab = "")
@@ -33,6 +35,7 @@ plot.clearing_payments <- function(x, ..., most = 20) {
   invisible(sums)
 }
 
+# Breaking cuts: how many banks pay in full at each cut of all cash.
 plot.clearing_breaking <- function(x, ...) {
   cuts <- x$banks$cut
   at <- 0:1000

@@ -40,17 +40,3 @@ run_program <- function(words) {
   }
   list(lines = read_lines(output), status = as.integer(status))
 }
-
-# The lines of a file, in UTF-8, whatever the locale has.
-read_lines <- function(file) {
-  size <- file.size(file)
-  if (is.na(size) || size == 0) return(character(0))
-  whole <- rawToChar(readBin(file, "raw", size))
-  Encoding(whole) <- "UTF-8"
-  strsplit(whole, "\n", fixed = TRUE)[[1]]
-}
-
-# Writes a text as it is, in UTF-8.
-write_text <- function(lines, file) {
-  writeBin(charToRaw(enc2utf8(paste0(lines, "\n", collapse = ""))), file)
-}

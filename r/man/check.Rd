@@ -4,7 +4,9 @@
 \alias{convert}
 \alias{generate}
 \title{Other tasks}
-\description{\code{check} gives the counts of a network and both tables as the program reads them. \code{compress} cancels cycles of debts of one class. \code{convert} gives the banks with what they owe outside. \code{generate} clears a network made from a number, and gives its sums.}
+\description{\code{check} gives the counts of a network and both tables as the program reads them. \code{compress}
+cancels cycles of debts of one class. \code{convert} gives the banks with what they owe outside. \code{generate}
+clears a network made from a number, and gives its sums.}
 \usage{
 check(network)
 compress(network)
@@ -18,7 +20,8 @@ generate(seed, size, tries, workers = 4, sweeps = 1)
   \item{tries}{how many debts are tried, from 0 to 20,000}
   \item{workers, sweeps}{as for \code{\link{clear}}}
 }
-\value{A list of data frames. \code{compress} gives the debts that are left, ranks that rise along each of them, and how much was \code{cancelled}.}
+\value{A list of data frames. \code{compress} gives the debts that are left, ranks that rise along each of them, and
+how much was \code{cancelled}.}
 \examples{
 banks <- data.frame(name = c("A", "B", "C"), cash = c(7, 1, 0))
 debts <- data.frame(debtor = c("A", "B"), creditor = c("B", "C"), claim = c(10, 9))

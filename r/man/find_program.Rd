@@ -1,7 +1,8 @@
 \name{find_program}
 \alias{find_program}
 \title{Where the program is}
-\description{The program that the environment variable \code{CLEARING} names, else \command{clearing} on the path. Where there is none it is an error that says what to do.}
+\description{The program that the environment variable \code{CLEARING} names, else \command{clearing} on the path.
+Where there is none it is an error that says what to do.}
 \usage{
 find_program()
 }

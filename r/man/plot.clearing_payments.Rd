@@ -2,7 +2,8 @@
 \alias{plot.clearing_payments}
 \alias{plot.clearing_breaking}
 \title{Pictures of payments and of breaking cuts}
-\description{Payments are drawn as a bar for each debtor: grey is paid, the colour is unpaid. Breaking cuts are drawn as the number of banks that pay in full at each cut of all cash. The title says what the picture shows.}
+\description{Payments are drawn as a bar for each debtor: grey is paid, the colour is unpaid. Breaking cuts are
+drawn as the number of banks that pay in full at each cut of all cash. The title says what the picture shows.}
 \usage{
 \method{plot}{clearing_payments}(x, ..., most = 20)
 \method{plot}{clearing_breaking}(x, ...)

@@ -5,7 +5,10 @@
 \alias{amount}
 \alias{print.bank_case}
 \title{Cases: a network with its unit, date and names}
-\description{A case is a folder with the two files, perhaps \code{scenarios.toml} and \code{labels.csv}, and \code{datapackage.json}, a description by the Data Package standard. \code{read_case} reads one, \code{write_case} writes one whole or not at all. Links, and paths that lead out of the folder, are refused. Copies of sheets in \code{sources} stay with the case: \code{write_case} writes those that \code{read_case} found.}
+\description{A case is a folder with the two files, perhaps \code{scenarios.toml} and \code{labels.csv}, and
+\code{datapackage.json}, a description by the Data Package standard. \code{read_case} reads one, \code{write_case}
+writes one whole or not at all. Links, and paths that lead out of the folder, are refused. Copies of sheets in
+\code{sources} stay with the case: \code{write_case} writes those that \code{read_case} found.}
 \usage{
 bank_case(network, title = "", description = "", as_of = NULL, test = NULL,
           currency = NULL, unit = "1", labels = NULL, keep = NULL)
@@ -29,7 +32,10 @@ amount(case, units)
   \item{units}{whole units of account}
   \item{...}{not used}
 }
-\value{A case: a list with \code{network}, \code{labels}, \code{title}, \code{description}, \code{as_of}, \code{test}, \code{currency}, \code{unit}, \code{limits}, \code{keep} and \code{notes}, lines on what in the folder is not as it was described, and on keys under \code{clearing} that are unknown. All tasks take a case in the place of a network. \code{amount} gives texts, exact decimals in the currency; \code{as.numeric} makes numbers of them.}
+\value{A case: a list with \code{network}, \code{labels}, \code{title}, \code{description}, \code{as_of},
+\code{test}, \code{currency}, \code{unit}, \code{limits}, \code{keep} and \code{notes}, lines on what in the folder
+is not as it was described, and on keys under \code{clearing} that are unknown. All tasks take a case in the place
+of a network. \code{amount} gives texts, exact decimals in the currency; \code{as.numeric} makes numbers of them.}
 \examples{
 banks <- data.frame(name = c("A", "B", "C"), cash = c(7, 1, 0))
 debts <- data.frame(debtor = c("A", "B"), creditor = c("B", "C"), claim = c(10, 9))

@@ -17,7 +17,9 @@ losses(name, cut = 0, ...)
   \item{cut}{how much of all cash is lost, per mille, from 0 to 1,000}
   \item{...}{what single banks lose after the cut, in units, by their names; or one named vector}
 }
-\value{\code{stress} gives \code{payments}, \code{standings} and \code{totals}, with the number and the name of the scenario in front. \code{outcomes} gives a line of sums for each scenario, and how often each bank defaults. \code{losses} gives a scenario.}
+\value{\code{stress} gives \code{payments}, \code{standings} and \code{totals}, with the number and the name of the
+scenario in front. \code{outcomes} gives a line of sums for each scenario, and how often each bank defaults.
+\code{losses} gives a scenario.}
 \examples{
 banks <- data.frame(name = c("A", "B", "C"), cash = c(7, 1, 0))
 debts <- data.frame(debtor = c("A", "B"), creditor = c("B", "C"), claim = c(10, 9))
