@@ -372,6 +372,12 @@ class Matrix(Case):
         self.told("clearing-from-matrix", sheet, "--leave-out", "C", *self.files)
         self.assertEqual(self.debts.read_text(), "debtor,creditor,class,claim\nA,B,1,6\nB,A,1,2\n")
 
+    def test_a_total_that_is_wrong_is_told_in_the_row_of_a_bank_that_is_left_out(self):
+        sheet = self.file("m.csv", ",A,B,C,Total,cash\nA,0,6,4,10,3\nB,2,0,8,10,4\nC,3,1,0,11,5\n")
+        says = "m.csv row 4 column Total: Total says 11, and the others come to 4: correct the sheet"
+        for more in ([], ["--leave-out", "C"]):
+            self.refused("clearing-from-matrix", 1, says, sheet, *more, *self.files)
+
     def test_banks_of_the_table_alone_are_kept(self):
         matrix = self.file("m.csv", ",B,C\nA,6,4\nB,0,8\n")
         table = self.file("t.csv", "bank,cash\nD,9\nA,3\nB,4\nC,5\n")

@@ -15,7 +15,7 @@ from clearing_client.scenarios import Scenario, Scenarios
 from .. import cases, files, labels
 from ..imports import options, tables
 from ..imports.amounts import Amounts, AmountError, shown
-from ..imports.faults import Faults
+from ..imports.faults import HEADER, Faults
 from ..imports.made_case import scale_in
 from ..imports.reading import Form
 from ..imports.summary import Summary
@@ -103,7 +103,7 @@ def scenarios_of(table: Table, case: Case, args: argparse.Namespace, faults: Fau
         exact = loss.amount * cash[loss.bank] if args.share else loss.amount / whole.worth
         if round(exact) > MAX_LOSS:
             what = f"a loss of {round(exact):,} units, more than the most, {MAX_LOSS:,}"
-            faults.add(table, loss.row, loss.column, what)
+            faults.at_cell(table, loss.row, loss.column, what)
         whole.take(loss, exact, cash[loss.bank])
     whole.tell(summary, table)
     return Scenarios([Scenario(name, losses=whole.units[name]) for name in names])
@@ -115,10 +115,10 @@ def names_in(table: Table, args: argparse.Namespace, faults: Faults) -> List[str
     for name in names:
         if not is_name(name):
             what = f"{name!r} is no name of a scenario: 1 to 64 bytes, no comma, quote or control character"
-            faults.add(table, table.rows[name] if args.rows else 0, None, what, kind="name")
+            faults.at_row(table, table.rows[name] if args.rows else HEADER, what, kind="name")
     if len(names) > MAX_SCENARIOS:
         what = f"{len(names):,} scenarios, {len(names) - MAX_SCENARIOS:,} more than the most, {MAX_SCENARIOS:,}"
-        faults.add(table, None, None, what)
+        faults.add_general(table, what)
     return names
 
 
@@ -183,16 +183,11 @@ def amount_of(table: Table, name: str, column: str, reader: Amounts, is_share: b
         else:
             amount = Fraction(reader.read(percent[1] if percent else cell)) / (100 if percent else 1)
     except AmountError as unread:
-        faults.add(table, table.rows[name], column, unread, kind=unread.kind)
+        faults.at_cell(table, table.rows[name], column, unread, kind=unread.kind)
         return Fraction(0)
     if is_share and not 0 <= amount <= 1:
-        faults.add(
-            table,
-            table.rows[name],
-            column,
-            f"{shown(amount)} is no share of cash from 0 to 1; per cent have the sign %",
-            kind="share",
-        )
+        what = f"{shown(amount)} is no share of cash from 0 to 1; per cent have the sign %"
+        faults.at_cell(table, table.rows[name], column, what, kind="share")
         return Fraction(0)
     return amount
 
@@ -204,4 +199,4 @@ def check_banks(
     for loss in losses:
         if loss.bank not in cash:
             hint = "" if not args.rows else f"; say --ignore {tables.quoted(loss.column)} if it is no bank"
-            faults.add(table, loss.row, loss.column, f"{case.folder} has no bank {loss.bank}{hint}", kind="no bank")
+            faults.at_cell(table, loss.row, loss.column, f"{case.folder} has no bank {loss.bank}{hint}", kind="no bank")

@@ -56,17 +56,23 @@ class Amounts:
         # of workbooks.
         self.uses: Dict[str, Tuple[str, str]] = {}
         self.currency: Optional[Tuple[str, str]] = None
-        self.known: Dict[str, Amount] = {}
+        self.read_before: Dict[str, Amount] = {}
         self.numbers: Set[Amount] = set()
 
     def read(self, text: str) -> Amount:
         """The amount in a cell: an integer or a fraction. Fails with `AmountError` where it is none."""
         if isinstance(text, Cell):
             return self.of_cell(text)
-        amount = self.known.get(text)
+        amount = self.read_before.get(text)
         if amount is None:
-            amount = self.known[text] = self.of_text(text)
+            amount = self.read_before[text] = self.of_text(text)
         return amount
+
+    def scale(self) -> int:
+        """How many of the finest amount that was read make one, of the amounts that are no whole numbers."""
+        fractions = [amount for amount in (*self.read_before.values(), *self.numbers) if not isinstance(amount, int)]
+        scale: int = 10 ** max(map(decimals_of, fractions), default=0)
+        return scale
 
     def of_cell(self, cell: Cell) -> Amount:
         """The amount of a cell of a workbook: its number, or what its text says."""
@@ -191,8 +197,8 @@ def is_null(text: str) -> bool:
 
 def below_zero(text: str) -> str:
     """What is said of an amount below 0."""
-    way = "say --turn negative, or --leave-out negative"
-    return f"{text!r} is below 0; what a bank is owed stands as a debt of the bank that owes: {way}"
+    hint = "say --turn negative, or --leave-out negative"
+    return f"{text!r} is below 0; what a bank is owed stands as a debt of the bank that owes: {hint}"
 
 
 def is_in_threes(whole: str) -> bool:

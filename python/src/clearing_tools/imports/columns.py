@@ -60,12 +60,8 @@ def ask_alike(faults: Faults, table: AnySheet, option: str, usual: str, columns:
     """Asks which of several columns is meant that have the usual name but for capitals or spaces."""
     for column in columns:
         if column != usual:
-            faults.add(
-                table,
-                0,
-                column,
-                f"its name is {usual} but for capitals or spaces; say --{option} {quoted(column)}, or rename it",
-            )
+            what = f"its name is {usual} but for capitals or spaces; say --{option} {quoted(column)}, or rename it"
+            faults.at_header(table, column, what)
 
 
 def take_alike(table: AnySheet, name: str, banks: Container[str] = ()) -> str:
@@ -119,7 +115,8 @@ def find_outside(
     if args.no_outside:
         return (), (*like, *usual)
     for column in like:
-        faults.add(table, 0, column, f"it may be what is owed outside; say --outside {quoted(column)}, or --no-outside")
+        what = f"it may be what is owed outside; say --outside {quoted(column)}, or --no-outside"
+        faults.at_header(table, column, what)
     return tuple(outside), tuple(like)
 
 

@@ -2,11 +2,12 @@
 from typing import Container, Dict, List, NamedTuple, Set
 
 from .amounts import Amount
-from .control import TotalLines, is_called_total, wrong
+from .control import TotalLines, sum_fault
 from .exposure_sheets import ExposureSheets
-from .left_out import Gone, beside_of, no_total, tell_columns
+from .left_out import Gone, beside_of, no_line_to_drop, no_line_to_leave_out, no_total, tell_columns
 from .summary import Counted
 from .tables import quoted
+from .totals_names import is_called_total
 
 
 class Judged(NamedTuple):
@@ -30,7 +31,7 @@ def is_called(name: str) -> bool:
     return not name or is_called_total(name)
 
 
-class Dropping:
+class ExposureDropping:
     """Takes out of a list and its table what the words say, and tells it."""
 
     def __init__(self, sheets: ExposureSheets) -> None:
@@ -44,7 +45,7 @@ class Dropping:
             for value in values:
                 if value not in there:
                     some = ", ".join(sorted(there)[:5]) + (", .." if len(there) > 5 else "")
-                    self.faults.add(self.list, 0, column, f"no line has {value!r} here; it has {some}")
+                    self.faults.at_header(self.list, column, f"no line has {value!r} here; it has {some}")
             rows = [row for row, text in self.list.column(column).items() if str(text) not in values]
             self.sheets.leave_out(rows, f"lines left out by --where {column}={' or '.join(values)}")
 
@@ -65,8 +66,9 @@ class Dropping:
                 continue
             if name in self.table.columns and name not in self.table.rows:
                 tell_columns(self.summary, [name], self.table, args.amounts, "amounts left out by --drop")
-            if not (self.table.drop(name) or rows):
-                faults.add(self.list, None, None, f"there is no {name} to drop")
+            if not (self.table.has_line(name) or rows):
+                faults.add_general(self.list, no_line_to_drop(name))
+            self.table.drop(name)
             self.sheets.leave_out(rows, f"lines left out by --drop {quoted(name)}")
         self.leave_out_banks()
         named = {name for names in parties.values() for name in names}
@@ -80,7 +82,7 @@ class Dropping:
         for row in rows:
             side = owes if str(self.list.cell(row, self.sheets.columns.debtor)) == name else owed
             side.add(self.sheets.quiet(row) or 0)
-        self.faults.add(self.list, rows[0] if rows else None, None, no_total(self.list, name, owes, owed))
+        self.faults.at_row(self.list, rows[0] if rows else None, no_total(self.list, name, owes, owed))
 
     def leave_out_banks(self) -> None:
         """Leaves out the banks that are named by --leave-out, with all that they owe and are owed, and tells it."""
@@ -96,7 +98,7 @@ class Dropping:
                 reader = self.args.amounts(is_signed=True)
                 gone.beside = beside_of(self.table, name, self.sheets.bank_columns.amounts, reader)
             if not rows and name not in self.table.rows:
-                self.faults.add(self.list, None, None, f"there is no {name or 'line without a name'} to leave out")
+                self.faults.add_general(self.list, no_line_to_leave_out(name))
                 continue
             self.table.drop_row(name)
             for row in rows:
@@ -145,8 +147,8 @@ class Dropping:
         for line in judged:
             # Lines of a bank that the table lacks are no totals, unless some are.
             if not line.is_right and (any(map(is_called, line.names)) or right >= 2):
-                what = wrong("the line of totals", line.amount, line.total)
-                self.faults.add(self.list, line.row, self.sheets.columns.amount, what)
+                what = sum_fault("the line of totals", line.amount, line.total)
+                self.faults.at_cell(self.list, line.row, self.sheets.columns.amount, what)
         if right:
             self.summary.tell("control totals that agree", right, None, self.list.label)
         named = {name for names in dropped.values() for name in names if is_called(name)}

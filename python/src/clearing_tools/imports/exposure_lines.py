@@ -1,16 +1,15 @@
-"""The lines of a list of exposures, and the debts that they are."""
+"""The lines of a list of exposures, each read into what its debtor owes its creditor."""
 from dataclasses import dataclass
-from typing import Callable, Dict, Iterable, List, Optional, Set, Tuple
+from typing import Dict, List, Optional, Set, Tuple
 
 from .amounts import Amount, is_null
 from .books.rows import Row
-from .control import is_called_total
 from .exposure_sheets import ExposureSheets
 from .groups import RANKS
-from .left_out import LEFT, ask_currencies, currencies_in
+from .left_out import LEFT
 from .summary import Counted
 from .tables import quoted
-from .units import Debt
+from .totals_names import is_called_total
 
 
 @dataclass
@@ -26,112 +25,133 @@ class Exposure:
     amount: Amount
 
 
-class Lines:
-    """The lines of a list of exposures that are part of a debt."""
+class Duplicates:
+    """The lines that are the same in every column as one before."""
+
+    def __init__(self, sheets: ExposureSheets) -> None:
+        self.sheets, self.choice = sheets, sheets.args.duplicates
+        self.seen: Set[Tuple[str, ...]] = set()
+        self.rows: List[int] = []
+
+    def is_passed_over(self, row: int, cells: Row) -> bool:
+        """Whether a line is there already and counts once. It is refused where nothing was said of such lines."""
+        key = tuple(cells)
+        if key not in self.seen:
+            self.seen.add(key)
+            return False
+        self.rows.append(row)
+        if self.choice is None:
+            hint = "say --duplicates once to take it once, or --duplicates sum"
+            what = f"the same in every column as a line before; {hint}"
+            self.sheets.faults.at_row(self.sheets.list, row, what)
+        return self.choice == "once"
+
+    def tell(self) -> None:
+        """Tells how many there are, and what was done with them."""
+        if self.rows:
+            done = {"once": "taken once", "sum": "summed"}.get(self.choice or "", "")
+            step = "leftOut" if self.choice == "once" else "summed"
+            amount: Amount = sum(filter(None, map(self.sheets.quiet, self.rows)))
+            what = "lines that are the same in every column"
+            self.sheets.summary.tell(what, len(self.rows), amount, done, step=step)
+
+
+class LineReader:
+    """Reads the lines of a list of exposures that are part of a debt, and counts those that are not. Of a list there
+    may be a million lines: what a text means that stands in many of them is looked up once."""
 
     def __init__(self, sheets: ExposureSheets) -> None:
         self.sheets, self.args, self.faults, self.summary = sheets, sheets.args, sheets.faults, sheets.summary
-        self.list, self.table, self.cells, self.columns = sheets.list, sheets.table, sheets.cells, sheets.columns
+        self.list, self.columns, self.cells = sheets.list, sheets.columns, sheets.cells
+        self.banks, self.kinds = sheets.table.rows, sheets.args.left_out.kinds
+        self.debtor_index = self.list.columns[self.columns.debtor]
+        self.creditor_index = self.list.columns[self.columns.creditor]
+        self.amount_index = self.list.columns[self.columns.amount]
+        self.has_rank = bool(self.columns.class_of or self.columns.rank)
+        self.empty_texts: Dict[str, bool] = {}
+        self.left = {what: Counted() for what in LEFT}
 
     def lines(self) -> List[Exposure]:
         """The lines that are part of a debt; lines that are the same count once where that is said."""
-        seen: Set[Tuple[str, ...]] = set()
-        once, lines = [], []
-        left = {what: Counted() for what in LEFT}
-        takes = self.line_in(left)
+        lines, duplicates = [], Duplicates(self.sheets)
         for row, cells in self.list.cells.items():
-            key = tuple(cells)
-            if key in seen:
-                once.append(row)
-                if self.args.duplicates is None:
-                    self.faults.add(
-                        self.list,
-                        row,
-                        None,
-                        "the same in every column as a line before; say --duplicates once to take it once, or "
-                        "--duplicates sum",
-                    )
-                if self.args.duplicates == "once":
-                    continue
-            else:
-                seen.add(key)
-            line = takes(row, cells)
+            line = None if duplicates.is_passed_over(row, cells) else self.line_in(row, cells)
             if line is not None:
                 lines.append(line)
-        if once:
-            how = {"once": "taken once", "sum": "summed"}.get(self.args.duplicates or "", "")
-            step = "leftOut" if self.args.duplicates == "once" else "summed"
-            amount: Amount = sum(filter(None, map(self.sheets.quiet, once)))
-            self.summary.tell("lines that are the same in every column", len(once), amount, how, step=step)
+        duplicates.tell()
         self.sheets.rates.tell(self.summary, "lines")
-        for what, counted in left.items():
+        for what, counted in self.left.items():
             counted.tell(self.summary, LEFT[what], step="read" if what in ("turned", "zero") else "leftOut")
         return lines
 
-    def line_in(self, left: Dict[str, Counted]) -> Callable[[int, Row], Optional[Exposure]]:
-        """What makes a line of a row and its cells: nothing of one that is left out, or has a fault. What texts mean
-        that stand in many cells is looked up once."""
-        columns, banks, known = self.columns, self.table.rows, self.cells.amounts.known
-        owes, owed, worth = (self.list.columns[name] for name in (columns.debtor, columns.creditor, columns.amount))
-        has_rank, has_rate, kinds = bool(columns.class_of or columns.rank), bool(columns.rate), self.args.left_out.kinds
-        is_empty: Dict[str, bool] = {}
+    def line_in(self, row: int, cells: Row) -> Optional[Exposure]:
+        """The line of a row and its cells; nothing of one that is left out, or has a fault."""
+        debtor_cell, creditor_cell = cells[self.debtor_index], cells[self.creditor_index]
+        text = cells[self.amount_index]
+        is_empty = self.is_empty(text)
+        if (is_empty or self.kinds) and self.is_left_out(row, is_empty, str(debtor_cell) == str(creditor_cell)):
+            return None
+        debtor = self.bank_in(row, self.columns.debtor, debtor_cell)
+        creditor = self.bank_in(row, self.columns.creditor, creditor_cell)
+        rank = self.class_in(row) if self.has_rank else self.args.rank
+        amount = self.amount_in(row, text)
+        if debtor is not None and debtor == creditor:
+            what = f"{debtor} is its own creditor; correct it, or say --leave-out self"
+            self.faults.at_cell(self.list, row, self.columns.creditor, what, kind="self")
+        elif amount < 0:
+            debtor, creditor, amount = creditor, debtor, -amount
+            self.left["turned"].add(amount)
+        if debtor is None or creditor is None or rank is None:
+            return None
+        return Exposure(row, debtor, creditor, rank, amount)
 
-        def line_of(row: int, cells: Row) -> Optional[Exposure]:
-            debtor, creditor, text = cells[owes], cells[owed], cells[worth]
-            if text not in is_empty:
-                bare = str(text).strip()
-                is_empty[text] = not bare or is_null(bare)
-            if (is_empty[text] or kinds) and self.is_left_out(row, is_empty[text], str(debtor) == str(creditor), left):
-                return None
-            # A cell of a workbook may have a fault, and a name that no bank has is one.
-            one = debtor if type(debtor) is str and debtor in banks else self.bank_of(row, columns.debtor)
-            other = creditor if type(creditor) is str and creditor in banks else self.bank_of(row, columns.creditor)
-            rank = self.class_in(row) if has_rank else self.args.rank
-            is_plain = type(text) is str and text in known and not has_rate
-            amount = known[text] if is_plain else self.amount_of(row)
-            if one is not None and one == other:
-                what = f"{one} is its own creditor; correct it, or say --leave-out self"
-                self.faults.add(self.list, row, columns.creditor, what, kind="self")
-            elif amount < 0:
-                one, other, amount = other, one, -amount
-                left["turned"].add(amount)
-            return None if one is None or other is None or rank is None else Exposure(row, one, other, rank, amount)
+    def is_empty(self, text: str) -> bool:
+        """Whether the cell of an amount is empty, or says that there is nothing."""
+        is_empty = self.empty_texts.get(text)
+        if is_empty is None:
+            bare = str(text).strip()
+            is_empty = self.empty_texts[text] = not bare or is_null(bare)
+        return is_empty
 
-        return line_of
-
-    def is_left_out(self, row: int, is_empty: bool, is_self: bool, left: Dict[str, Counted]) -> bool:
+    def is_left_out(self, row: int, is_empty: bool, is_self: bool) -> bool:
         """Whether a line is left out by its kind; what is read otherwise than it stands is counted too."""
-        kind, kinds = None, self.args.left_out.kinds
-        if is_empty:
-            kind = "empty" if "empty" in kinds else None
-            if kind is None:
-                left["zero"].add(0)
-        elif is_self and "self" in kinds:
-            kind = "self"
-        elif "negative" in kinds:
-            amount = self.sheets.quiet(row)
-            kind = "negative" if amount is not None and amount < 0 else None
+        kind = self.kind_left_out(row, is_empty, is_self)
         if kind is not None:
-            left[kind].add(self.sheets.quiet(row) or 0)
+            self.left[kind].add(self.sheets.quiet(row) or 0)
+        elif is_empty:
+            self.left["zero"].add(0)
         return kind is not None
 
-    def bank_of(self, row: int, column: str) -> Optional[str]:
+    def kind_left_out(self, row: int, is_empty: bool, is_self: bool) -> Optional[str]:
+        """The kind by which a line is left out, if it is."""
+        if is_empty:
+            return "empty" if "empty" in self.kinds else None
+        if is_self and "self" in self.kinds:
+            return "self"
+        amount = self.sheets.quiet(row) if "negative" in self.kinds else None
+        return "negative" if amount is not None and amount < 0 else None
+
+    def bank_in(self, row: int, column: str, cell: str) -> Optional[str]:
         """The bank in a cell, or nothing where the table has none of this name."""
-        cell = self.list.cell(row, column)
+        # A cell of a workbook is more than its text.
+        if type(cell) is str and cell in self.banks:
+            return cell
         name = str(cell)
-        if name in self.table.rows:
+        if name in self.banks:
             return name
-        fault = getattr(cell, "fault", None)
-        if fault:
-            what = f"{name!r} {fault.replace(', and no amount', '')}, and no bank"
-        elif is_called_total(name):
-            what = f"{name} is no bank of {self.table.label}; is it a line of totals? say --drop {quoted(name)}"
-        elif not name:
-            what = "no bank is named; is it a line of totals? delete it, or say --drop ''"
-        else:
-            what = f"{self.table.label} has no bank {name}; add it there, or say --leave-out {quoted(name)}"
-        self.faults.add(self.list, row, column, what, kind="no bank")
+        self.faults.at_cell(self.list, row, column, self.no_bank(name, getattr(cell, "fault", None)), kind="no bank")
         return None
+
+    def no_bank(self, name: str, fault: Optional[str]) -> str:
+        """What is said of the name of a debtor or a creditor that the table does not have."""
+        label = self.sheets.table.label
+        if fault:
+            return f"{name!r} {fault.replace(', and no amount', '')}, and no bank"
+        if is_called_total(name):
+            return f"{name} is no bank of {label}; is it a line of totals? say --drop {quoted(name)}"
+        if not name:
+            return "no bank is named; is it a line of totals? delete it, or say --drop ''"
+        return f"{label} has no bank {name}; add it there, or say --leave-out {quoted(name)}"
 
     def class_in(self, row: int) -> Optional[int]:
         """The class of a line."""
@@ -139,7 +159,7 @@ class Lines:
             instruments, file = self.columns.class_of
             text = str(self.list.cell(row, instruments))
             if text not in self.sheets.classes:
-                self.faults.add(self.list, row, instruments, f"{file} has no class for {text!r}")
+                self.faults.at_cell(self.list, row, instruments, f"{file} has no class for {text!r}")
             return self.sheets.classes.get(text)
         column = self.columns.rank
         if column is None:
@@ -154,82 +174,10 @@ class Lines:
             return None
         return int(text)
 
-    def amount_of(self, row: int) -> Amount:
+    def amount_in(self, row: int, text: str) -> Amount:
         """The amount of a line in the currency of the network."""
-        amount = self.cells.amount(self.list, row, self.columns.amount)
-        return self.sheets.rates.worth(self.list, row, amount) if self.columns.rate else amount
-
-    # Debts
-
-    def debts(self) -> List[Debt]:
-        """The debts of the lines: one for each debtor, creditor and class."""
-        by_key: Dict[Tuple[str, str, int], List[Exposure]] = {}
-        for line in self.lines():
-            by_key.setdefault((line.debtor, line.creditor, line.rank), []).append(line)
-        several = {key: lines for key, lines in by_key.items() if len(lines) > 1}
-        for key, lines in several.items():
-            self.check_several(key, lines)
-        if self.args.is_summed:
-            self.check_apart(several.values())
-        self.check_currencies()
-        if several:
-            into = f"into {len(several):,} {'debt' if len(several) == 1 else 'debts'}"
-            self.summary.tell("lines summed", sum(map(len, several.values())), None, into, step="summed")
-        debts = []
-        for (debtor, creditor, rank), lines in by_key.items():
-            place = (self.list, lines[0].row, self.columns.amount)
-            amount = sum(line.amount for line in lines) if len(lines) > 1 else lines[0].amount
-            debts.append(Debt(debtor, creditor, rank, amount, place))
-        empty = sum(1 for debt in debts if not debt.amount)
-        if empty:
-            self.summary.tell("debts of amount 0, left out", empty, step="leftOut")
-        return debts
-
-    def check_several(self, key: Tuple[str, str, int], lines: List[Exposure]) -> None:
-        """Refuses several lines of one debt where nothing says that they are to be summed."""
-        if self.args.is_summed:
-            return
-        first = self.list.cells[lines[0].row]
-        for line in lines[1:]:
-            if list(self.list.cells[line.row]) != list(first):
-                what = (
-                    f"a debt of {key[0]} to {key[1]} of class {key[2]} is also in row {lines[0].row}; say --sum to "
-                    "add them up"
-                )
-                self.faults.add(self.list, line.row, None, what, kind="several")
-
-    def check_apart(self, several: Iterable[List[Exposure]]) -> None:
-        """Refuses to sum lines that differ in a column that nothing was said of, with two of them."""
-        for column in self.sheets.unlooked():
-            if column in self.args.ignore:
-                continue
-            for lines in several:
-                texts = [str(self.list.cell(line.row, column)) for line in lines]
-                other = next((at for at, text in enumerate(texts) if text != texts[0]), None)
-                if other is not None:
-                    self.ask_apart(column, lines[0].row, texts[0], lines[other].row, texts[other])
-                    break
-
-    def ask_apart(self, column: str, row: int, text: str, other: int, other_text: str) -> None:
-        """Asks what is meant with lines of one debt that differ in a column."""
-        word = quoted(column)
-        what = (
-            f"lines of one debt differ here, such as row {row} with {text!r} and row {other} with {other_text!r}; "
-            f"say --ignore {word} to sum them, "
-        )
-        self.faults.add(
-            self.list,
-            0,
-            column,
-            what + f"--where {word}=VALUE to take those of one value, or --rate {word}=FILE where these are currencies",
-        )
-
-    def check_currencies(self) -> None:
-        """Refuses a column with several currencies that nothing was said of: all of them codes, or in a column of such
-        a name."""
-        for column in self.sheets.unlooked():
-            if column not in self.args.ignore and currencies_in(self.list, column):
-                ask_currencies(self.faults, self.list, column, f"--where {quoted(column)}=CODE, ")
-        for column in self.sheets.others:
-            if column in self.table and column not in self.args.ignore and currencies_in(self.table, column):
-                ask_currencies(self.faults, self.table, column)
+        if self.columns.rate:
+            amount = self.cells.amount(self.list, row, self.columns.amount)
+            return self.sheets.rates.worth(self.list, row, amount)
+        amount_before = self.cells.amounts.read_before.get(text) if type(text) is str else None
+        return self.cells.amount(self.list, row, self.columns.amount) if amount_before is None else amount_before

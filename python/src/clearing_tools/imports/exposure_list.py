@@ -47,12 +47,12 @@ from typing import Iterator, List, Optional, Sequence, Tuple
 from .. import cli
 from ..runner import command
 from . import options
-from .exposure_drop import Dropping
-from .exposure_lines import Lines
+from .exposure_debts import ExposureDebts
+from .exposure_drop import ExposureDropping
 from .exposure_sheets import ExposureSheets
 from .faults import Faults
 from .groups import add_groups, read_groups
-from .left_out import RATES, tell_columns
+from .left_out import RATES
 from .sheet_options import ListOptions
 from .summary import Summary, tell_read
 from .tables import Listing
@@ -87,30 +87,29 @@ def network_of(
     """The network of a list, and its sheet."""
     sheets = ExposureSheets.read(args, faults, summary)
     tell_read(summary, [sheets.list, sheets.table], args)
-    for label, columns in (
-        (sheets.list.label, [c for c in sheets.unlooked() if c not in sheets.columns.where]),
-        (sheets.table.label, sheets.others),
-    ):
-        if columns:
-            detail = f"{', '.join(columns)} in {label}"
-            summary.tell("columns not looked at", len(columns), None, detail, step="leftOut")
-    tell_columns(summary, sheets.others, sheets.table, args.amounts, "amounts in a column not looked at")
-    dropping = Dropping(sheets)
+    sheets.tell_unlooked()
+    dropping = ExposureDropping(sheets)
     dropping.drop()
     dropping.take_where()
-    debts = Lines(sheets).debts()
-    names = list(sheets.table.rows)
-    banks = options.banks_of(sheets.table, names, sheets.bank_columns, args, sheets.cells, summary)
-    faults.end_if_any()
-    network = Network(banks, debts, bool(sheets.bank_columns.outside), sheets.table)
-    summary.tell("debts in the sheet", sum(1 for debt in debts if debt.amount), network.owed())
-    network.labels = options.labels_in(banks, sheets.table, args.label_column)
+    network = network_in(sheets)
     groups = read_groups(args, faults)
     if groups:
         network = grouped(network, groups, faults, sheets.list, summary)
     pairs = [pair for pair in (sheets.columns.class_of, sheets.columns.rate) if pair]
     read = [args.file, args.table, args.groups, *(file for _, file in pairs)]
     return network, sheets.list, read
+
+
+def network_in(sheets: ExposureSheets) -> Network:
+    """The network of a list and its table, of which nothing is to be dropped any more."""
+    args, summary, table = sheets.args, sheets.summary, sheets.table
+    debts = ExposureDebts(sheets).debts()
+    banks = options.banks_of(table, list(table.rows), sheets.bank_columns, args, sheets.cells, summary)
+    sheets.faults.end_if_any()
+    network = Network(banks, debts, bool(sheets.bank_columns.outside), table)
+    summary.tell("debts in the sheet", sum(1 for debt in debts if debt.amount), network.owed())
+    network.labels = options.labels_in(banks, table, args.label_column)
+    return network
 
 
 @contextlib.contextmanager

@@ -7,7 +7,7 @@ from .amounts import Amount, AmountError
 from .columns import Columns, columns_of, find_column, need_usual
 from .faults import Faults
 from .groups import read_classes
-from .left_out import Rates
+from .left_out import Rates, tell_columns
 from .sheet_options import ListOptions
 from .summary import Summary
 from .tables import Cells, Listing, Table, need_column, pair_of
@@ -52,7 +52,7 @@ class ExposureSheets:
         self.rates = Rates(faults)
         self.cells = Cells(args.amounts(is_signed=args.takes_negative), faults)
         # What is read of an amount, whatever others are, by its text.
-        self.known: Dict[str, Optional[Amount]] = {}
+        self.quiet_amounts: Dict[str, Optional[Amount]] = {}
 
     @classmethod
     def read(cls, args: ListOptions, faults: Faults, summary: Summary) -> "ExposureSheets":
@@ -77,6 +77,16 @@ class ExposureSheets:
         """The columns of the list that are not looked at."""
         return [column for column in self.list.header if column not in self.columns.used]
 
+    def tell_unlooked(self) -> None:
+        """Tells the columns that are not looked at, and the amounts in those of the table."""
+        unlooked = [column for column in self.unlooked() if column not in self.columns.where]
+        for label, columns in ((self.list.label, unlooked), (self.table.label, self.others)):
+            if columns:
+                detail = f"{', '.join(columns)} in {label}"
+                self.summary.tell("columns not looked at", len(columns), None, detail, step="leftOut")
+        what = "amounts in a column not looked at"
+        tell_columns(self.summary, self.others, self.table, self.args.amounts, what)
+
     def parties(self) -> Dict[int, List[str]]:
         """Who owes and who is owed, by the rows."""
         places = [self.list.columns[column] for column in (self.columns.debtor, self.columns.creditor)]
@@ -86,14 +96,14 @@ class ExposureSheets:
         """The amount of a line, or None where it is none; without a fault."""
         cell = self.list.cell(row, self.columns.amount)
         # A cell of a workbook is more than its text.
-        is_known = type(cell) is str and cell in self.known
-        if is_known:
-            return self.known[cell]
+        is_read = type(cell) is str and cell in self.quiet_amounts
+        if is_read:
+            return self.quiet_amounts[cell]
         amount: Optional[Amount] = None
         with contextlib.suppress(AmountError):
             amount = self.args.amounts(is_signed=True).read(cell)
         if type(cell) is str:
-            self.known[cell] = amount
+            self.quiet_amounts[cell] = amount
         return amount
 
     def leave_out(self, rows: List[int], what: str) -> None:

@@ -4,6 +4,8 @@ from typing import Dict, Iterator, List, Optional, Protocol, Sequence, Tuple, Un
 from ..runner import ToolError
 
 SHOWN = 3
+HEADER = 0
+"""The row of a fault that stands in the header, wherever the header is."""
 
 
 class SheetError(ToolError):
@@ -15,8 +17,8 @@ class Located(Protocol):
 
     label: str
 
-    def place(self, row: Optional[int], column: Optional[str]) -> str:
-        """A place as words: of no row in particular where it is None, of the header where it is 0."""
+    def place_text(self, row: Optional[int], column: Optional[str]) -> str:
+        """A place as words: of no row in particular where it is None, of the header where it is `HEADER`."""
 
 
 File = Union[str, Located]
@@ -38,29 +40,46 @@ class Faults:
         self.found: Dict[Tuple[str, str], Dict[str, List[str]]] = {}
         self.questions: Dict[object, Question] = {}
 
-    def add(
+    # Of many faults of a kind the first alone is told in full; a fault without a kind is of a kind of its own.
+
+    def add_general(self, file: File, what: object, kind: Optional[str] = None) -> None:
+        """Adds a fault of a whole table, or of a file by its name."""
+        self.at_cell(file, None, None, what, kind)
+
+    def at_header(self, file: File, column: str, what: object) -> None:
+        """Adds a fault of a column."""
+        self.at_cell(file, HEADER, column, what)
+
+    def at_row(self, file: File, row: Optional[int], what: object, kind: Optional[str] = None) -> None:
+        """Adds a fault of a row, by its number; of the whole table where there is no such row."""
+        self.at_cell(file, row, None, what, kind)
+
+    def at_cell(
         self, file: File, row: Optional[int], column: Optional[str], what: object, kind: Optional[str] = None
     ) -> None:
-        """Adds a fault of a table or of a file by its name; a row of None is none of one row, 0 the header. Of many
-        faults of a kind the first alone is told in full."""
-        label, place = place_of(file, row, column)
-        self.found.setdefault((label, kind or str(what)), {}).setdefault(str(what), []).append(place)
+        """Adds a fault of a cell, by the number of its row."""
+        label, text = label_and_place(file, row, column)
+        self.keep(label, str(what), text, kind)
+
+    def keep(self, label: str, what: str, place: str, kind: Optional[str] = None) -> None:
+        """Keeps a fault with those of its file and kind."""
+        self.found.setdefault((label, kind or what), {}).setdefault(what, []).append(place)
 
     def ask(self, file: File, row: Optional[int], column: Optional[str], text: str, kind: object) -> None:
         """Asks once what many cells leave open."""
         if kind in self.questions:
             self.questions[kind].more += 1
         else:
-            label, place = place_of(file, row, column)
+            label, place = label_and_place(file, row, column)
             self.questions[kind] = Question(label, text)
-            self.found.setdefault((label, text), {}).setdefault(text, []).append(place)
+            self.keep(label, text, place)
 
     def lines(self) -> Iterator[str]:
         """The faults as lines, in the order in which they were found."""
         more_cells = {(question.label, question.text): question.more for question in self.questions.values()}
         for (label, kind), whats in self.found.items():
             if len(whats) > SHOWN:
-                yield many_of(label, whats)
+                yield summary_of_many(label, whats)
                 continue
             for what, places in whats.items():
                 more = more_cells.get((label, what), 0)
@@ -74,7 +93,7 @@ class Faults:
             raise ToolError(first, more=more)
 
 
-def many_of(label: str, whats: Dict[str, List[str]]) -> str:
+def summary_of_many(label: str, whats: Dict[str, List[str]]) -> str:
     """One line for many faults of a kind: their number, the first in full, and where others stand."""
     count = sum(map(len, whats.values()))
     (first, places), *others = whats.items()
@@ -82,10 +101,10 @@ def many_of(label: str, whats: Dict[str, List[str]]) -> str:
     return f"{label}{places_text(places)}: {first} ({count:,} of this kind; also{some})"
 
 
-def place_of(file: File, row: Optional[int], column: Optional[str]) -> Tuple[str, str]:
+def label_and_place(file: File, row: Optional[int], column: Optional[str]) -> Tuple[str, str]:
     """The name of a file, and a place in it as words."""
     if not isinstance(file, str):
-        return file.label, file.place(row, column)
+        return file.label, file.place_text(row, column)
     return file, "".join([f" row {row}" if row is not None else "", f" column {column}" if column else ""])
 
 

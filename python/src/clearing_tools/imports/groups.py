@@ -49,7 +49,7 @@ def read_classes(name: str, args: SheetOptions, faults: Faults) -> Dict[str, int
     table, texts = pairs_of(name, args, faults, "class")
     for key, text in texts.items():
         if text not in RANKS:
-            faults.add(table, table.rows[key], "class", f"{text!r} is not a class from 1 to 9")
+            faults.at_cell(table, table.rows[key], "class", f"{text!r} is not a class from 1 to 9")
     faults.end_if_any()
     return {key: int(text) for key, text in texts.items()}
 
@@ -63,9 +63,9 @@ def read_rates(name: str, args: SheetOptions, faults: Faults) -> Dict[str, Amoun
         try:
             rates[key] = amounts.read(text)
         except AmountError as unread:
-            faults.add(table, table.rows[key], "rate", unread)
+            faults.at_cell(table, table.rows[key], "rate", unread)
             continue
         if not rates[key]:
-            faults.add(table, table.rows[key], "rate", f"the rate of {key} is 0")
+            faults.at_cell(table, table.rows[key], "rate", f"the rate of {key} is 0")
     faults.end_if_any()
     return rates

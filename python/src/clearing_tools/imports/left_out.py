@@ -90,6 +90,16 @@ def no_total(table: AnySheet, name: str, owes: Counted, owed: Counted) -> str:
     )
 
 
+def no_line_to_drop(name: str) -> str:
+    """What is said of a name that is to be dropped and is not there."""
+    return f"there is no {name} to drop"
+
+
+def no_line_to_leave_out(name: str) -> str:
+    """What is said of a bank that is to be left out and is not there."""
+    return f"there is no {name or 'line without a name'} to leave out"
+
+
 def beside_of(table: Table, name: str, columns: Iterable[str], amounts: Amounts) -> Dict[str, Amount]:
     """What a bank has in some columns of a table, as far as it can be read."""
     amounts_beside: Dict[str, Amount] = {}
@@ -153,7 +163,7 @@ def ask_currencies(faults: Faults, table: AnySheet, column: str, more: str = "")
         f"amounts are in {', '.join(some[:5])}{', ..' if len(some) > 5 else ''}; say --rate {word}=FILE, {more}or "
         f"--ignore {word}"
     )
-    faults.add(table, 0, column, what)
+    faults.at_header(table, column, what)
 
 
 class Rates:
@@ -194,7 +204,7 @@ class Rates:
         assert self.column is not None  # as who calls has seen
         currency = str(table.cell(row, self.column))
         if currency not in self.rates:
-            self.faults.add(table, table.rows[row], self.column, f"{self.word} has no rate for {currency!r}")
+            self.faults.at_cell(table, table.rows[row], self.column, f"{self.word} has no rate for {currency!r}")
             return 0
         self.converted.setdefault(currency, Counted()).add(amount)
         return amount * self.rates[currency]

@@ -172,9 +172,9 @@ def banks_of(
     banks, empty = [], 0
     for name in names:
         if not is_name(name) and not (args.has_codes and name):
-            cells.faults.add(table, table.rows.get(name), None, f"{name!r} {NAME_HINT}", kind="name")
+            cells.faults.at_row(table, table.rows.get(name), f"{name!r} {NAME_HINT}", kind="name")
         if name not in table.rows:
-            cells.faults.add(table, None, None, f"no row for the bank {name}", kind="no row")
+            cells.faults.add_general(table, f"no row for the bank {name}", kind="no row")
             continue
         rule = rule_of(table, name, columns.rule, args.rule, cells.faults)
         if is_empty(table, name, columns.cash):
@@ -194,7 +194,7 @@ def rule_of(table: Table, name: str, column: Optional[str], usual: str, faults: 
         return usual
     rule = table.cell(name, column)
     if rule not in RULES:
-        faults.add(table, table.rows[name], column, f"{rule!r} is not one of {', '.join(RULES)}", kind="rule")
+        faults.at_cell(table, table.rows[name], column, f"{rule!r} is not one of {', '.join(RULES)}", kind="rule")
     return rule or usual
 
 
@@ -208,23 +208,18 @@ def check_empty(table: Table, name: str, column: str, args: SheetOptions, faults
     """Refuses an empty cell of cash until --empty 0."""
     if not args.is_empty_zero and not str(table.cell(name, column)).strip():
         what = f"the cash of {name} is an empty cell; write it, or say --empty 0 to read empty cells of cash as 0"
-        faults.add(table, table.rows[name], column, what, kind="empty cash")
+        faults.at_cell(table, table.rows[name], column, what, kind="empty cash")
 
 
 def whole(table: Table, name: str, column: str, args: SheetOptions, cells: Cells) -> Amount:
     """An amount of a bank, which is to be a whole number of units unless amounts are rounded."""
     amount = cells.amount(table, name, column)
     if amount < 0:
-        cells.faults.add(
-            table,
-            table.rows[name],
-            column,
-            f"{shown(amount)} is below 0, and no cash or debt of a bank",
-            kind="below 0",
-        )
+        what = f"{shown(amount)} is below 0, and no cash or debt of a bank"
+        cells.faults.at_cell(table, table.rows[name], column, what, kind="below 0")
         return 0
     if args.unit is not None and not args.is_rounded and (Fraction(amount) / args.unit).denominator != 1:
-        cells.faults.add(table, table.rows[name], column, not_whole(amount), kind="whole")
+        cells.faults.at_cell(table, table.rows[name], column, not_whole(amount), kind="whole")
     return amount
 
 
@@ -232,8 +227,8 @@ def labels_in(banks: Iterable[Bank], table: Table, column: Optional[str]) -> Dic
     """The full names of the banks, where a column has them."""
     if not column:
         return {}
-    known = {bank.name for bank in banks}
-    return {name: str(text) for name, text in table.column(column).items() if text and name in known}
+    names = {bank.name for bank in banks}
+    return {name: str(text) for name, text in table.column(column).items() if text and name in names}
 
 
 def outputs_of(

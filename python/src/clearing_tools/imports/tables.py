@@ -7,7 +7,7 @@ from ..labels import word_shown
 from ..runner import shown
 from .amounts import Amount, AmountError, Amounts
 from .books.rows import Row, letters
-from .faults import Faults
+from .faults import HEADER, Faults
 from .reading import Form, NumberedRow, rows_of
 
 Key = TypeVar("Key", str, int)
@@ -35,7 +35,7 @@ class Sheet(Generic[Key]):
         self.cells: Dict[Key, Row] = {}
         for at, column in enumerate(self.header):
             if column in self.columns:
-                faults.add(self, 0, column or "without a name", "a second column of this name")
+                faults.at_header(self, column or "without a name", "a second column of this name")
             self.columns.setdefault(column, at)
         self.letters = {column: letters(at + self.lead) for column, at in self.columns.items()}
         for number, record in source.rows[1:]:
@@ -62,7 +62,7 @@ class Sheet(Generic[Key]):
         if len(record) > width and not any(record[width:]):
             record = record[:width]
         if len(record) != width:
-            self.faults.add(self, number, None, f"{len(record)} fields, and the header has {width}")
+            self.faults.at_row(self, number, f"{len(record)} fields, and the header has {width}")
         else:
             self.keep(number, record)
 
@@ -83,9 +83,9 @@ class Sheet(Generic[Key]):
         at = self.columns[column]
         return {key: cells[at] for key, cells in self.cells.items()}
 
-    def place(self, row: Optional[int], column: Optional[str]) -> str:
+    def place_text(self, row: Optional[int], column: Optional[str]) -> str:
         """A place as words: with the cell as a spreadsheet names it where it is one."""
-        row = self.first if row == 0 else row
+        row = self.first if row == HEADER else row
         if self.sheet.is_book and row is not None and column in self.letters:
             return (
                 f" {self.letters[column]}{row} (column {column})"
@@ -117,10 +117,10 @@ class Table(Sheet[str]):
         fault = getattr(name, "fault", None)
         if fault:
             what = f"the name {str(name)!r} {fault.replace(', and no amount', '')}, and no name"
-            self.faults.add(self, number, None, what)
+            self.faults.at_row(self, number, what)
         elif name in self.rows:
             called = f"of the name {name}" if name else "without a name"
-            self.faults.add(self, number, None, f"a second row {called}, beside row {self.rows[name]}", kind="second")
+            self.faults.at_row(self, number, f"a second row {called}, beside row {self.rows[name]}", kind="second")
         else:
             self.rows[str(name)], self.cells[str(name)] = number, record[1:]
 
@@ -129,15 +129,16 @@ class Table(Sheet[str]):
         self.rows.pop(name, None)
         self.cells.pop(name, None)
 
-    def drop(self, name: str) -> bool:
-        """Drops the row and the column of a name. Says whether there was one."""
-        is_there = name in self.rows or name in self.columns
-        self.rows.pop(name, None)
-        self.cells.pop(name, None)
+    def has_line(self, name: str) -> bool:
+        """Whether a row or a column has a name."""
+        return name in self.rows or name in self.columns
+
+    def drop(self, name: str) -> None:
+        """Drops the row and the column of a name, where they are there."""
+        self.drop_row(name)
         if name in self.columns:
             del self.columns[name]
             self.header.remove(name)
-        return is_there
 
 
 class Convert(Protocol):
@@ -167,7 +168,7 @@ class Cells:
         if unread.question:
             self.faults.ask(table, table.rows[row], column, str(unread), unread.question)
         else:
-            self.faults.add(table, table.rows[row], column, unread, kind=unread.kind)
+            self.faults.at_cell(table, table.rows[row], column, unread, kind=unread.kind)
 
 
 def quoted(name: str) -> str:
@@ -199,4 +200,4 @@ def need_column(faults: Faults, table: AnySheet, option: str, column: str, banks
         if below
         else f"; say --{option} NAME"
     )
-    faults.add(table, 0, None, f"no column {column}; it has {there or 'no other'}{hint}")
+    faults.at_row(table, HEADER, f"no column {column}; it has {there or 'no other'}{hint}")

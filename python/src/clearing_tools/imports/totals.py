@@ -153,7 +153,7 @@ def read_known(args: TotalsOptions, faults: Faults) -> Known:
     for row in table.rows:
         pair = str(table.cell(row, "debtor")), str(table.cell(row, "creditor"))
         if pair in known:
-            faults.add(table, row, None, f"what {pair[0]} owes {pair[1]} is also in row {known[pair].row}")
+            faults.at_row(table, row, f"what {pair[0]} owes {pair[1]} is also in row {known[pair].row}")
         known[pair] = KnownClaim(cells.amount(table, row, "amount"), table, row)
     return known
 
@@ -164,9 +164,9 @@ def known_places(known: Known, names: List[str], unit: Fraction, faults: Faults)
     for (debtor, creditor), (amount, table, row) in known.items():
         for name in (debtor, creditor):
             if name not in places:
-                faults.add(table, row, None, f"there is no bank {name} in the totals")
+                faults.at_row(table, row, f"there is no bank {name} in the totals")
         if debtor == creditor:
-            faults.add(table, row, None, f"{debtor} is its own creditor")
+            faults.at_row(table, row, f"{debtor} is its own creditor")
         if not faults.found:
             fixed[places[debtor], places[creditor]] = units_of(amount, unit)
     faults.end_if_any()
@@ -188,7 +188,7 @@ def networks_in_units(sheet: TotalsTable, known: Known) -> Tuple[WholeTotals, Ne
         if any(left < 0 for side in totals.left() for left in side) or some_network(totals) is None:
             more = " with the known claims" if known else ""
             what = f"in units of {shown(unit)} no network has these totals{more}"
-            sheet.faults.add(sheet.table, None, None, what)
+            sheet.faults.add_general(sheet.table, what)
             sheet.faults.end_if_any()
         networks = networks_of(totals, args, most)
         largest = max(max(claims.values(), default=0) for claims in networks.claims)
@@ -201,13 +201,12 @@ def check_network(claims: Claims, where: str, faults: Faults, table: Table, limi
     """Refuses a network beyond the limits."""
     if len(claims) > limits.debts:
         what = f"{where}{len(claims):,} debts, {len(claims) - limits.debts:,} more than the most, {limits.debts:,}"
-        faults.add(
-            table, None, None, f"{what}; take --method sparse, or sample with a smaller --density and more --steps"
-        )
+        hint = "take --method sparse, or sample with a smaller --density and more --steps"
+        faults.add_general(table, f"{what}; {hint}")
     most = max(claims.values(), default=0)
     if most > MAX_CLAIM:
         what = f"{where}a claim of {most:,} units, {most - MAX_CLAIM:,} more than the most, {MAX_CLAIM:,}"
-        faults.add(table, None, None, f"{what}; take a larger --unit, or --unit auto")
+        faults.add_general(table, f"{what}; take a larger --unit, or --unit auto")
 
 
 def check_exact(claims: Claims, totals: Totals) -> None:

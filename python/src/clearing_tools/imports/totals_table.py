@@ -7,7 +7,10 @@ from .amounts import Amount, shown
 from .columns import Columns, columns_of, need_usual
 from .control import TotalLines
 from .faults import Faults
-from .left_out import Gone, Rates, ask_currencies, beside_of, currencies_in, no_total, tell_columns
+from .left_out import (
+    Gone, Rates, ask_currencies, beside_of, currencies_in, no_line_to_drop, no_line_to_leave_out, no_total,
+    tell_columns,
+)
 from .sheet_options import TotalsOptions
 from .summary import Summary, tell_read
 from .tables import Cells, Table, need_column
@@ -94,21 +97,28 @@ class TotalsTable:
         totals = TotalLines.read(table, args, self.amounts, may_be_empty=self.columns.amounts)
         for name in args.drop:
             totals.check(name, faults, self.summary)
-            gone = self.gone_of(name)
+            gone = self.gone_with(name)
             if name in table.rows and name not in totals.rows:
-                faults.add(table, table.rows[name], None, no_total(table, name, gone.owes, gone.owed))
-            elif not table.drop(name):
-                faults.add(table, None, None, f"there is no {name} to drop")
-        for name in args.left_out.banks:
-            gone = self.gone_of(name)
-            if not table.drop(name):
-                faults.add(table, None, None, f"there is no {name or 'line without a name'} to leave out")
+                faults.at_row(table, table.rows[name], no_total(table, name, gone.owes, gone.owed))
                 continue
-            gone.tell(self.summary)
+            if not table.has_line(name):
+                faults.add_general(table, no_line_to_drop(name))
+            table.drop(name)
+        self.leave_out_banks()
         totals.refuse(faults, {row for row in totals.rows if row not in args.drop})
         faults.end_if_any()
 
-    def gone_of(self, name: str) -> Gone:
+    def leave_out_banks(self) -> None:
+        """Leaves out the banks that are named by --leave-out, with all that they owe and are owed, and tells it."""
+        for name in self.args.left_out.banks:
+            gone = self.gone_with(name)
+            if not self.table.has_line(name):
+                self.faults.add_general(self.table, no_line_to_leave_out(name))
+                continue
+            self.table.drop(name)
+            gone.tell(self.summary)
+
+    def gone_with(self, name: str) -> Gone:
         """What goes with a bank: all that it owes and is owed, and what stands beside."""
         table, gone, reader = self.table, Gone(name), self.args.amounts()
         if name in table.rows:
@@ -120,8 +130,8 @@ class TotalsTable:
 
     def tell_empty(self, columns: Iterable[str]) -> None:
         """Tells of empty cells, which are read as 0."""
-        known = [column for column in columns if column in self.table]
-        empty = sum(not str(text).strip() for column in known for text in self.table.column(column).values())
+        there = [column for column in columns if column in self.table]
+        empty = sum(not str(text).strip() for column in there for text in self.table.column(column).values())
         if empty:
             self.summary.tell("empty totals, read as 0", empty, 0)
 
@@ -159,14 +169,14 @@ class TotalsTable:
         hint = "add a bank that stands for those who are not in the file"
         if args.rest in self.names:
             hint = f"there is a bank {args.rest} already; say --rest NAME"
-        self.faults.add(self.table, None, None, f"{what}; {hint}")
+        self.faults.add_general(self.table, f"{what}; {hint}")
 
     def check(self) -> None:
         """Refuses more banks than the limits have, and totals that no network has."""
         count, most = len(self.names), self.args.most.banks
         if count > most:
             what = f"{count:,} banks, {count - most:,} more than the most, {most:,}"
-            self.faults.add(self.table, None, None, what)
+            self.faults.add_general(self.table, what)
         self.faults.end_if_any()
         total = sum(self.owes)
         for name, out, in_ in zip(self.names, self.owes, self.owed):
@@ -175,5 +185,5 @@ class TotalsTable:
                     f"{name} owes {shown(out)} and is owed {shown(in_)}, together {shown(out + in_ - total)} more than"
                     f" all claims, {shown(total)}: no bank can owe itself"
                 )
-                self.faults.add(self.table, self.table.rows.get(name), None, what)
+                self.faults.at_row(self.table, self.table.rows.get(name), what)
         self.faults.end_if_any()

@@ -72,7 +72,7 @@ class WholeTotals:
         owed, up, fits_too = rounded_to(sheet.owed, unit, total)
         if not (fits and fits_too):
             what = f"in units of {shown(unit)} the totals cannot come to one sum; take a smaller --unit"
-            sheet.faults.add(sheet.table, None, None, what)
+            sheet.faults.add_general(sheet.table, what)
         whole = cls(sheet, unit, Totals([bank.name for bank in sheet.banks], owes, owed), up + down)
         whole.check_sums()
         sheet.faults.end_if_any()
@@ -87,7 +87,7 @@ class WholeTotals:
                     f"rounded to units of {shown(self.unit)} {name} owes {out:,} and is owed {in_:,}, more than all"
                     f" claims, {totals.sum:,}; take a smaller --unit"
                 )
-                self.sheet.faults.add(self.sheet.table, self.sheet.table.rows.get(name), None, what)
+                self.sheet.faults.at_row(self.sheet.table, self.sheet.table.rows.get(name), what)
 
     def lines(self) -> List[Line]:
         """What was done to come to whole units."""
@@ -115,7 +115,7 @@ def check_whole(sheet: TotalsTable, unit: Fraction) -> None:
     for column, amounts in ((sheet.liabilities, sheet.owes), (sheet.assets, sheet.owed)):
         for bank, amount in zip(sheet.banks, amounts):
             if (Fraction(amount) / unit).denominator != 1:
-                sheet.faults.add(sheet.table, sheet.table.rows.get(bank.name), column, not_whole(amount))
+                sheet.faults.at_cell(sheet.table, sheet.table.rows.get(bank.name), column, not_whole(amount))
 
 
 def check_limits(sheet: TotalsTable, unit: Fraction, total: int) -> None:
@@ -123,7 +123,7 @@ def check_limits(sheet: TotalsTable, unit: Fraction, total: int) -> None:
     limits = sheet.args.most
     if total > limits.owed:
         what = f"all claims come to {total:,} units: {total - limits.owed:,} more than the most, {limits.owed:,}"
-        sheet.faults.add(sheet.table, None, None, f"{what}; take a larger --unit, or --unit auto")
+        sheet.faults.add_general(sheet.table, f"{what}; take a larger --unit, or --unit auto")
     for bank in sheet.banks:
         for amount, most, what in (
             (bank.cash, MAX_CASH, "the cash of"),
@@ -132,7 +132,7 @@ def check_limits(sheet: TotalsTable, unit: Fraction, total: int) -> None:
             units = units_of(amount, unit)
             if units > most:
                 what = f"{what} {bank.name} is {units:,} units: {units - most:,} more than the most, {most:,}"
-                sheet.faults.add(sheet.table, sheet.table.rows.get(bank.name), None, what)
+                sheet.faults.at_row(sheet.table, sheet.table.rows.get(bank.name), what)
 
 
 def claims_of(args: TotalsOptions, owes: Sequence[Amount], owed: Sequence[Amount]) -> int:

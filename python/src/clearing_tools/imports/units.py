@@ -30,15 +30,15 @@ class Bank:
 
 @dataclass
 class Debt:
-    """A debt in the amounts of a sheet, with its place: the table, the row and the column."""
+    """A debt in the amounts of a sheet, with the cell of its amount: the table, the row and the column."""
 
-    __slots__ = ("debtor", "creditor", "rank", "amount", "place")
+    __slots__ = ("debtor", "creditor", "rank", "amount", "cell")
 
     debtor: str
     creditor: str
     rank: int
     amount: Amount
-    place: Tuple[Located, int, str]
+    cell: Tuple[Located, int, str]
 
 
 @dataclass
@@ -171,11 +171,11 @@ def unit_for(network: Network, args: SheetOptions, faults: Faults, table: Locate
         return auto_unit(network, limits)
     broken = list(breaks(network, args.unit, args.most))
     for line in broken:
-        faults.add(table, None, None, line)
+        faults.add_general(table, line)
     if broken:
         unit = shown(auto_unit(network, limits))
-        way = f"(--unit {unit.replace(',', '')} --round, or --unit auto)"
-        faults.add(table, None, None, f"a unit of {unit} keeps all limits on amounts {way}")
+        hint = f"(--unit {unit.replace(',', '')} --round, or --unit auto)"
+        faults.add_general(table, f"a unit of {unit} keeps all limits on amounts {hint}")
     return args.unit
 
 
@@ -215,13 +215,14 @@ class Units:
         banks = len(self.network.banks), limits.banks, "banks"
         for count, most, what in [banks, (self.count(), limits.debts, "debts")]:
             if count > most:
-                faults.add(table, None, None, f"{count:,} {what}, {count - most:,} more than the most, {most:,}")
+                faults.add_general(table, f"{count:,} {what}, {count - most:,} more than the most, {most:,}")
 
     def check_whole(self, faults: Faults) -> None:
         """Refuses debts that are no whole units."""
         for debt in self.network.debts:
             if off_by(debt.amount, self.unit):
-                faults.add(*debt.place, not_whole(debt.amount), kind="whole")
+                table, row, column = debt.cell
+                faults.at_cell(table, row, column, not_whole(debt.amount), kind="whole")
 
     def count(self) -> int:
         """How many debts have a unit."""
@@ -303,7 +304,7 @@ def grouped(
         summary.tell("banks of groups that are not here", len(unknown), None, ", ".join(unknown[:20]))
     for group in sorted(set(of.values())):
         if of.get(group, group) != group:
-            faults.add(table, None, None, f"the group {group} has the name of a bank of another group")
+            faults.add_general(table, f"the group {group} has the name of a bank of another group")
     banks = grouped_banks(network.banks, of, faults, table)
     summary.tell("groups", len(set(of.values())), None, f"of {len(of):,} banks")
     debts = grouped_debts(network.debts, of, summary)
@@ -323,7 +324,7 @@ def grouped_banks(banks: Iterable[Bank], of: Mapping[str, str], faults: Faults, 
         one.outside += bank.outside
         if one.rule != bank.rule:
             what = f"the banks of the group {group} have the rules {one.rule} and {bank.rule}; give them one"
-            faults.add(table, None, None, what)
+            faults.add_general(table, what)
     return list(by_group.values())
 
 
@@ -340,7 +341,7 @@ def grouped_debts(debts: Iterable[Debt], of: Mapping[str, str], summary: Summary
             by_key[key].amount += debt.amount
             summed[key] += 1
         else:
-            by_key[key] = Debt(*key, debt.amount, debt.place)
+            by_key[key] = Debt(*key, debt.amount, debt.cell)
     summary.tell("debts within groups, left out", len(within), sum(within), step="leftOut")
     if summed:
         count, into = sum(summed.values()) + len(summed), f"into {len(summed):,}"
