@@ -1,6 +1,7 @@
 """The package for Python on a program that lies, goes on, or prints without an end; and what it leaves where it is
 ended itself."""
 import os
+import pathlib
 import random
 import signal
 import subprocess
@@ -8,8 +9,9 @@ import sys
 import time
 import unittest
 import unittest.mock
+from typing import Any, Callable, Dict, Iterator, List, Tuple, Union
 
-from common import HUB, PROGRAM, ROOT, TWELVE, Case, clearing, files_of
+from common import HUB, PROGRAM, ROOT, TWELVE, Case, Word, clearing, files_of
 
 import clearing_client as cc
 from clearing_client import Network, Raise, Scenario, Scenarios, request, texts
@@ -17,7 +19,7 @@ from clearing_client import Network, Raise, Scenario, Scenarios, request, texts
 SCENARIOS = [Scenario("as it is"), Scenario("half", 500), Scenario("one loses", losses={"Hub": 7})]
 
 
-def each_task(net, bank):
+def each_task(net: Network, bank: str) -> Iterator[Tuple[str, Callable[..., Any]]]:
     """Each call of a network."""
     yield "check", net.check
     yield "clear", net.clear
@@ -40,141 +42,153 @@ def each_task(net, bank):
     yield "generate", lambda **more: cc.generate(1, 5, 9, **more)
 
 
+# The words of the program behind each call that is asked about another network.
+TASKS = {
+    "check": ["check"],
+    "clear": ["clear"],
+    "journal": ["clear", "--show", "both"],
+    "central": ["central"],
+    "defaults": ["defaults"],
+    "stress": ["stress", "--scenarios", "{scenarios}"],
+    "outcomes": ["outcomes", "--scenarios", "{scenarios}"],
+    "bounds": ["bounds"],
+    "costs": ["costs", "--keep", "500"],
+    "cost_bounds": ["cost-bounds", "--keep", "500"],
+    "breaking": ["breaking"],
+    "impact": ["impact"],
+    "rescues": ["rescues"],
+    "compress": ["compress"],
+    "rescue": ["rescue", "--bank", "South"],
+    "map_stress": ["stress", "--scenarios", "{scenarios}"],
+    "map_outcomes": ["outcomes", "--scenarios", "{scenarios}"],
+}
+# The calls that say nothing of claims.
+WITHOUT_CLAIMS = ["defaults", "breaking", "impact", "outcomes", "map_outcomes", "rescues", "compress"]
+
+
+def other_hubs() -> Dict[str, Tuple[str, str]]:
+    """The two files of the hub, each with a change."""
+    banks, debts = (HUB / "banks.csv").read_text(), (HUB / "debts.csv").read_text()
+    return {
+        "a bank": (banks.replace("South", "Sud"), debts.replace("South", "Sud")),
+        "a claim": (banks, debts.replace(",90\n", ",91\n")),
+        "a debt less": (banks, debts[: debts.rstrip("\n").rindex("\n") + 1]),
+        "cash": (banks.replace(",1", ",2"), debts),
+        "a bank more": (banks + "More,1,order\n", debts),
+    }
+
+
+def is_alike(about: str, name: str) -> bool:
+    """Whether what a call answers may not show such a change of the hub."""
+    if name == "rescue" and about == "a bank":
+        return True
+    if name in ("central", "map_outcomes") and about != "a bank more":
+        return True
+    if about == "cash":
+        return name not in ("check", "impact")
+    return about in ("a claim", "a debt less") and name in WITHOUT_CLAIMS
+
+
+# What a program may print, and say on standard error.
+PRINTED = [
+    ("falls,9,1,1\n", ""),
+    ("falls,0,1,1\n", ""),
+    (f"falls,{'9' * 5000},1,1\n", ""),
+    ("unlawful,1,x,1\n", ""),
+    ("unfinished,Nobody\n", ""),
+    ("lawful,3\n\n", ""),
+    ("", f"clearing: banks row {'9' * 5000}: rule (5)\n"),
+    ("", "clearing: journal row 1: rule (5)\n"),
+    ("", "clearing: scenarios row 9: shape (17)\n"),
+    ("", "clearing: words row 1: rule (999)\n"),
+    ("", "clearing: cannot read \n"),
+    ("bank,added,short,also_saved,still_short\nHub,1,1," + "9" * 39 + ",0\n\nbank,saves\n", ""),
+    ("\0\n", ""),
+    ("\n", ""),
+    ("scenario,x\n", ""),
+    ("debtor,creditor,class,claim,paid\nA,B,1,2,3,4\n", ""),
+    ("banks,1\ndebts,1\nowed,1\ncash,1\n", ""),
+    ("rescue,x\n", ""),
+]
+
+
+def is_read(name: str, status: int, text: str) -> bool:
+    """Whether a call is asked about such an answer: a message is read alike by each task, a text as a result of one
+    kind."""
+    is_fault, is_verdict = status in (4, 99), text.startswith(("falls", "unlawful", "unfinished", "lawful"))
+    if is_fault and name not in ("check", "replay", "stress", "rescue", "generate") or bool(text) == is_fault:
+        return False
+    if status == 7 and not is_verdict or is_verdict and name not in ("replay", "clear", "map_stress"):
+        return False
+    return name not in ("central", "journal", "map_outcomes")
+
+
 class Lying(Case):
-    def net(self, example=HUB):
+    def net(self, example: pathlib.Path = HUB) -> Network:
         return Network(example / "banks.csv", example / "debts.csv")
 
-    def printing(self, text, status=0, message=""):
+    def printing(self, text: Union[str, bytes], status: int = 0, message: str = "") -> None:
         """Has a program that prints this, whatever it is asked."""
         printed, said = self.file("printed", text), self.file("said", message)
         self.program(f'cat "{printed}"; cat "{said}" >&2; exit {status}\n')
 
-    def test_an_answer_on_another_network_is_none(self):
+    def test_an_answer_on_another_network_is_none(self) -> None:
         """Each task on the hub, answered as the program answers on the hub with another bank, a debt less, other
         claims or other cash."""
-        net, bank = self.net(), "South"
-        banks, debts = (HUB / "banks.csv").read_text(), (HUB / "debts.csv").read_text()
-        others = {
-            "a bank": (banks.replace("South", "Sud"), debts.replace("South", "Sud")),
-            "a claim": (banks, debts.replace(",90\n", ",91\n")),
-            "a debt less": (banks, debts[: debts.rstrip("\n").rindex("\n") + 1]),
-            "cash": (banks.replace(",1", ",2"), debts),
-            "a bank more": (banks + "More,1,order\n", debts),
-        }
-        scenarios = self.file("s.toml", Scenarios(SCENARIOS).to_toml())
-        tasks = {
-            "check": [],
-            "clear": [],
-            "journal": ["clear", "--show", "both"],
-            "central": [],
-            "defaults": [],
-            "stress": ["stress", "--scenarios", scenarios],
-            "outcomes": ["outcomes", "--scenarios", scenarios],
-            "bounds": [],
-            "costs": ["costs", "--keep", 500],
-            "cost_bounds": ["cost-bounds", "--keep", 500],
-            "breaking": [],
-            "impact": [],
-            "rescues": [],
-            "compress": [],
-            "rescue": ["rescue", "--bank", "South"],
-            "map_stress": ["stress", "--scenarios", scenarios],
-            "map_outcomes": ["outcomes", "--scenarios", scenarios],
-        }
-        seen, right = 0, {}
-        for about, (b, d) in others.items():
-            words = ["--banks", self.file("b.csv", b), "--debts", self.file("d.csv", d)]
-            for name, call in each_task(net, bank):
-                if (
-                    name not in tasks
-                    or about == "a bank"
-                    and name == "rescue"
-                    or name in ("central", "map_outcomes")
-                    and about != "a bank more"
-                ):
+        net, seen = self.net(), 0
+        right = {name: self.answer(name, files_of(HUB)) for name in TASKS}
+        for about, (banks, debts) in other_hubs().items():
+            words = ["--banks", self.file("b.csv", banks), "--debts", self.file("d.csv", debts)]
+            for name, call in each_task(net, "South"):
+                if name not in TASKS or is_alike(about, name):
                     continue
-                task, *more = tasks[name] or [name]
-                printed = clearing(task, *words, *more).stdout
-                same = right.get(name) or right.setdefault(name, clearing(task, *files_of(HUB), *more).stdout)
+                printed = self.answer(name, words)
                 # Where the two say the same of names, claims and counts, nobody can tell them apart by these.
-                self.printing(printed)
-                if (
-                    about == "cash"
-                    and name not in ("check", "impact")
-                    or about in ("a claim", "a debt less")
-                    and name in ("defaults", "breaking", "impact", "outcomes", "map_outcomes", "rescues", "compress")
-                    or printed == same
-                ):
+                if printed == right[name]:
                     continue
+                self.printing(printed)
                 with self.assertRaises(cc.TextError, msg=(about, name)):
                     call()
                 seen += 1
         self.assertGreater(seen, 38)
-        # Other scenarios, and another bank than was asked for.
-        other = self.file(
-            "s.toml", Scenarios([Scenario("as it is"), Scenario("third", 333), Scenario("one loses")]).to_toml()
-        )
+
+    def answer(self, name: str, files: List[Word]) -> bytes:
+        """What the program prints on some files where a call asks it."""
+        scenarios = self.file("s.toml", Scenarios(SCENARIOS).to_toml())
+        task, *more = (word.format(scenarios=scenarios) for word in TASKS[name])
+        return clearing(task, *files, *more).stdout
+
+    def test_an_answer_on_other_scenarios_is_none(self) -> None:
+        net = self.net()
+        others = Scenarios([Scenario("as it is"), Scenario("third", 333), Scenario("one loses")])
+        other = self.file("s.toml", others.to_toml())
         for task, call in (
             ("stress", net.stress),
             ("outcomes", net.outcomes),
             ("stress", lambda s: list(cc.map_stress([net], s, jobs=1))),
         ):
-            self.printing(clearing(task, *files_of(HUB), "--scenarios", other).stdout)
-            with self.assertRaises(cc.TextError):
-                call(SCENARIOS)
-            self.printing("")
-            with self.assertRaises(cc.TextError):
-                call(SCENARIOS)
+            for printed in (clearing(task, *files_of(HUB), "--scenarios", other).stdout, ""):
+                self.printing(printed)
+                with self.assertRaises(cc.TextError):
+                    call(SCENARIOS)
+
+    def test_an_answer_on_another_bank_is_none(self) -> None:
         self.printing(clearing("rescue", *files_of(HUB), "--bank", "East").stdout)
         with self.assertRaises(cc.TextError):
-            net.rescue("South")
+            self.net().rescue("South")
+
+    def test_a_network_of_another_size_is_none(self) -> None:
         self.printing(clearing("gen", "--seed", 1, "--size", 6, "--tries", 9, "--workers", 1).stdout)
         with self.assertRaises(cc.TextError):
             cc.generate(1, 5, 9)
 
-    def test_whatever_a_program_prints_what_is_raised_is_a_fault_of_this_package(self):
+    def test_whatever_a_program_prints_what_is_raised_is_a_fault_of_this_package(self) -> None:
         net = self.net()
-        number = "9" * 5000
         for status in (0, 4, 7, 99):
-            for text, message in [
-                ("falls,9,1,1\n", ""),
-                ("falls,0,1,1\n", ""),
-                (f"falls,{number},1,1\n", ""),
-                ("unlawful,1,x,1\n", ""),
-                ("unfinished,Nobody\n", ""),
-                ("lawful,3\n\n", ""),
-                ("", f"clearing: banks row {number}: rule (5)\n"),
-                ("", "clearing: journal row 1: rule (5)\n"),
-                ("", "clearing: scenarios row 9: shape (17)\n"),
-                ("", "clearing: words row 1: rule (999)\n"),
-                ("", "clearing: cannot read \n"),
-                ("bank,added,short,also_saved,still_short\nHub,1,1," + "9" * 39 + ",0\n\nbank,saves\n", ""),
-                ("\0\n", ""),
-                ("\n", ""),
-                ("scenario,x\n", ""),
-                ("debtor,creditor,class,claim,paid\nA,B,1,2,3,4\n", ""),
-                ("banks,1\ndebts,1\nowed,1\ncash,1\n", ""),
-                ("rescue,x\n", ""),
-            ]:
+            for text, message in PRINTED:
                 self.printing(text, status, message)
-                # A message is read alike by each task, a text as a result of one kind.
                 for name, call in each_task(net, "South"):
-                    is_fault, is_verdict = status in (4, 99), text.startswith(
-                        ("falls", "unlawful", "unfinished", "lawful")
-                    )
-                    if (
-                        is_fault
-                        and name not in ("check", "replay", "stress", "rescue", "generate")
-                        or bool(text) == is_fault
-                    ):
-                        continue
-                    if (
-                        status == 7
-                        and not is_verdict
-                        or is_verdict
-                        and name not in ("replay", "clear", "map_stress")
-                        or name in ("central", "journal", "map_outcomes")
-                    ):
+                    if not is_read(name, status, text):
                         continue
                     try:
                         call()

@@ -8,142 +8,175 @@ import socket
 import threading
 import time
 import unittest
+from typing import Iterable, Optional, Tuple
 
 from common import PROGRAM
-from desk import DeskCase, swallow
+from desk import DeskCase, Headers, swallow
 
 SCRIPT = "<script>alert(1)</script>"
 
 
-class Attacks(DeskCase):
-    def test_nobody_else_gets_in(self):
-        old = self.desk()
-        before = old.ticket
-        old.end()
-        desk = self.desk()
-        here, own, ticket = f"http://{desk.host}", desk.own(), desk.ticket
-        body = json.dumps({"from": 0, "set": "cut", "value": "5"}).encode()
-        state, change = desk.at("/state/0"), desk.at("/change")
-        table = [
-            # Another name for this machine, as a page elsewhere may turn one to it.
-            *(
-                ("GET", state, {"Host": host}, None, 421)
-                for host in (
-                    f"localhost:{desk.port}",
-                    f"evil.example:{desk.port}",
-                    "127.0.0.1",
-                    "127.0.0.1:80",
-                    f"127.0.0.1.nip.io:{desk.port}",
-                    f"[::1]:{desk.port}",
-                    f"0.0.0.0:{desk.port}",
-                    f"127.1:{desk.port}",
-                    f"127.0.0.1:{desk.port}, evil.example",
-                    "",
-                )
-            ),
-            ("GET", desk.at("/"), {"Host": f"evil.example:{desk.port}"}, None, 421),
-            ("POST", change, {**own, "Host": f"evil.example:{desk.port}"}, body, 421),
-            # Another page.
-            *(
-                ("POST", change, {**own, "Origin": origin}, body, 403)
-                for origin in (
-                    "http://evil.example",
-                    "null",
-                    f"https://{desk.host}",
-                    f"{here}.evil.example",
-                    f"http://localhost:{desk.port}",
-                    f"http://127.0.0.1:{desk.port + 1}",
-                    None,
-                    "",
-                )
-            ),
-            ("GET", state, {"Origin": "http://evil.example"}, None, 403),
-            ("POST", change, {**own, "Sec-Fetch-Site": "cross-site"}, body, 403),
-            ("POST", change, {**own, "Sec-Fetch-Site": "same-site"}, body, 403),
-            # No ticket, a wrong one, and one of a desk that was before.
-            *(
-                ("GET", path, {}, None, 403)
-                for path in (
-                    "/",
-                    "/state/0",
-                    "/network",
-                    "/script/desk.mjs",
-                    "/style/desk.css",
-                    "/take/0/banks",
-                    "/journal/0",
-                    "/none",
-                    "//",
-                    "//state/0",
-                    f"/{ticket}",
-                    f"/{ticket[:-1]}/state/0",
-                    f"/{ticket}x/state/0",
-                    f"/x{ticket}/state/0",
-                    f"/{ticket.swapcase()}/state/0",
-                    f"/{before}/state/0",
-                    f"/?token={ticket}",
-                    f"/state/0?{ticket}",
-                    f"/state/0/{ticket}/",
-                    "/%ff/state/0",
-                    f"/./{ticket}/state/0",
-                    f"/x/../{ticket}/state/0",
-                    "/favicon.ico",
-                )
-            ),
-            # A cookie says nothing, whatever it is.
-            *(
-                ("GET", "/state/0", {"Cookie": value}, None, 403)
-                for value in (ticket, f"clearing_desk_{desk.port}={ticket}", "=;;\x01", "é")
-            ),
-            ("POST", "/change", own, body, 403),
-            ("POST", "/change", {**own, "Content-Length": str(10**9)}, b"", 403),
-            # Ways that are none.
-            *(
-                (method, state, {}, None, 405)
-                for method in ("PUT", "DELETE", "OPTIONS", "HEAD", "TRACE", "PATCH", "CONNECT")
-            ),
-            ("GET", change, {}, None, 405),
-            ("POST", state, own, b"", 405),
-            *(
-                ("GET", desk.at(path), {}, None, 404)
-                for path in (
-                    "/script/../state.py",
-                    "/script/%2e%2e/state.py",
-                    "/script/..%2fstate.py",
-                    "/script/none.mjs",
-                    "/style/../../../../etc/passwd",
-                    "//etc/passwd",
-                    "/take/0/../../etc/passwd",
-                    "/take/0/passwd",
-                    "/take/0/%2e%2e",
-                    "/state/1",
-                    "/state/-1",
-                    "/state/99999999",
-                    "/state/0x0",
-                    "/bank/0/12",
-                    "/question/0/0",
-                    "/other/0",
-                    "/other/1",
-                    "/other/1/0",
-                    "/bank/0",
-                    "/etc/passwd",
-                    "/state/" + "9" * 5000,
-                    "/%00",
-                    "/network/",
-                    f"/{ticket}/state/0",
-                )
-            ),
-        ]
-        for method, path, headers, sent, status in table:
-            got, told, text = desk.ask(
-                method, path, {key: value for key, value in headers.items() if key != "Host"}, sent, headers.get("Host")
-            )
+# A request: its method, path, headers and body, and the status that it ends with. Words between braces stand for
+# those of the desk that is asked.
+Way = Tuple[str, str, Headers, Optional[bytes], int]
+STATE, CHANGE = "/{ticket}/state/0", "/{ticket}/change"
+BODY = json.dumps({"from": 0, "set": "cut", "value": "5"}).encode()
+OTHER_HOSTS = [
+    "localhost:{port}",
+    "evil.example:{port}",
+    "127.0.0.1",
+    "127.0.0.1:80",
+    "127.0.0.1.nip.io:{port}",
+    "[::1]:{port}",
+    "0.0.0.0:{port}",
+    "127.1:{port}",
+    "127.0.0.1:{port}, evil.example",
+    "",
+]
+OTHER_ORIGINS = [
+    "http://evil.example",
+    "null",
+    "https://{host}",
+    "http://{host}.evil.example",
+    "http://localhost:{port}",
+    "http://127.0.0.1:{next}",
+    None,
+    "",
+]
+PATHS_WITHOUT_TICKET = [
+    "/",
+    "/state/0",
+    "/network",
+    "/script/desk.mjs",
+    "/style/desk.css",
+    "/take/0/banks",
+    "/journal/0",
+    "/none",
+    "//",
+    "//state/0",
+    "/{ticket}",
+    "/{short}/state/0",
+    "/{ticket}x/state/0",
+    "/x{ticket}/state/0",
+    "/{swapped}/state/0",
+    "/{before}/state/0",
+    "/?token={ticket}",
+    "/state/0?{ticket}",
+    "/state/0/{ticket}/",
+    "/%ff/state/0",
+    "/./{ticket}/state/0",
+    "/x/../{ticket}/state/0",
+    "/favicon.ico",
+]
+COOKIES = ["{ticket}", "clearing_desk_{port}={ticket}", "=;;\x01", "é"]
+OTHER_METHODS = ["PUT", "DELETE", "OPTIONS", "HEAD", "TRACE", "PATCH", "CONNECT"]
+PATHS_OF_NOTHING = [
+    "/script/../state.py",
+    "/script/%2e%2e/state.py",
+    "/script/..%2fstate.py",
+    "/script/none.mjs",
+    "/style/../../../../etc/passwd",
+    "//etc/passwd",
+    "/take/0/../../etc/passwd",
+    "/take/0/passwd",
+    "/take/0/%2e%2e",
+    "/state/1",
+    "/state/-1",
+    "/state/99999999",
+    "/state/0x0",
+    "/bank/0/12",
+    "/question/0/0",
+    "/other/0",
+    "/other/1",
+    "/other/1/0",
+    "/bank/0",
+    "/etc/passwd",
+    "/state/" + "9" * 5000,
+    "/%00",
+    "/network/",
+    "/{ticket}/state/0",
+]
+
+
+class Ways(DeskCase):
+    def setUp(self) -> None:
+        super().setUp()
+        self.running = self.desk()
+
+    def refused_ways(self, ways: Iterable[Way], before: str = "") -> None:
+        """Each of these requests is refused with its status and tells nothing to another page; none makes a state."""
+        desk = self.running
+        words = {
+            "host": desk.host,
+            "port": desk.port,
+            "next": desk.port + 1,
+            "ticket": desk.ticket,
+            "short": desk.ticket[:-1],
+            "swapped": desk.ticket.swapcase(),
+            "before": before,
+        }
+        for method, path, headers, sent, status in ways:
+            # The page's own headers, but for those that are put in their place.
+            own = desk.own() if method == "POST" else {}
+            asked = {**own, **{name: value and value.format(**words) for name, value in headers.items()}}
+            host = asked.pop("Host", None)
+            path = path.format(**words)
+            got, told, text = desk.ask(method, path, asked, sent, host)
             self.assertEqual(got, status, (method, path, headers, text[:80]))
             self.assertFalse([name for name in told if name.lower().startswith("access-control")], path)
             self.assertNotIn("Set-Cookie", told)
             self.assertIn("default-src 'none'", told["Content-Security-Policy"])
-        # None of it made a state.
         self.assertEqual(desk.change(0, set="cut", value="5")["id"], 1)
 
+    def test_another_name_for_this_machine_is_refused(self) -> None:
+        """A page elsewhere may turn one to it."""
+        self.refused_ways(
+            [
+                *(("GET", STATE, {"Host": host}, None, 421) for host in OTHER_HOSTS),
+                ("GET", "/{ticket}/", {"Host": "evil.example:{port}"}, None, 421),
+                ("POST", CHANGE, {"Host": "evil.example:{port}"}, BODY, 421),
+            ]
+        )
+
+    def test_another_page_is_refused(self) -> None:
+        self.refused_ways(
+            [
+                *(("POST", CHANGE, {"Origin": origin}, BODY, 403) for origin in OTHER_ORIGINS),
+                ("GET", STATE, {"Origin": "http://evil.example"}, None, 403),
+                ("POST", CHANGE, {"Sec-Fetch-Site": "cross-site"}, BODY, 403),
+                ("POST", CHANGE, {"Sec-Fetch-Site": "same-site"}, BODY, 403),
+            ]
+        )
+
+    def test_nobody_without_the_ticket_gets_in(self) -> None:
+        """Without one, with a wrong one, and with that of a desk that was before; a cookie says nothing."""
+        old = self.desk()
+        before = old.ticket
+        old.end()
+        self.refused_ways(
+            [
+                *(("GET", path, {}, None, 403) for path in PATHS_WITHOUT_TICKET),
+                *(("GET", "/state/0", {"Cookie": value}, None, 403) for value in COOKIES),
+                ("POST", "/change", {}, BODY, 403),
+                ("POST", "/change", {"Content-Length": str(10**9)}, b"", 403),
+            ],
+            before,
+        )
+
+    def test_a_method_that_a_path_has_not_is_refused(self) -> None:
+        self.refused_ways(
+            [
+                *((method, STATE, {}, None, 405) for method in OTHER_METHODS),
+                ("GET", CHANGE, {}, None, 405),
+                ("POST", STATE, {}, b"", 405),
+            ]
+        )
+
+    def test_a_path_that_leads_nowhere_is_refused(self) -> None:
+        self.refused_ways(("GET", "/{ticket}" + path, {}, None, 404) for path in PATHS_OF_NOTHING)
+
+
+class Attacks(DeskCase):
     def test_a_cookie_of_another_program_of_this_machine_keeps_nobody_out(self):
         desk = self.desk()
         for cookie in ('prefs={"a":1}', "a=b; c", "=", '"', "clearing_desk=1;;;", "\x01=\x02", "a=" + "x" * 8000):

@@ -4,13 +4,70 @@ import subprocess
 import sys
 import tracemalloc
 import unittest
+from typing import Any, Dict, Iterator
 
 from common import PACKAGES, TWELVE, files_of, tool
-from desk import PYTHON, SCENARIOS, DeskCase, standings
+from desk import PYTHON, SCENARIOS, DeskCase, Running, standings
 
 from clearing_client.records import Bank, Debt
 from clearing_tools.desk import state as states
 from clearing_tools.desk.steps import Steps
+
+
+# What may be typed into a field, or stand in a request.
+VALUES = [
+    "",
+    " ",
+    "\t",
+    "    ",
+    "0",
+    "00",
+    "-0",
+    "+5",
+    "1e3",
+    "0x1",
+    "１",
+    "٣",
+    "1_0",
+    " 7 ",
+    "\u00a07",
+    "7\u200b",
+    '"7"',
+    '"',
+    '""',
+    "7,",
+    ",,,",
+    "\ufeff7",
+    "\x00",
+    "\u202e7",
+    "\ud800",
+    "NaN",
+    "true",
+    "9" * 20,
+    "9" * 200,
+    "'",
+    ";",
+    "\x1f",
+    "=1+1",
+    "0" * 19 + "7",
+    "order",
+    "A",
+    "1",
+    "#",
+    "\u2028",
+]
+
+
+def typed_changes() -> Iterator[Dict[str, Any]]:
+    """Each change of three banks and two debts, with each value in each of its fields."""
+    fields = ("debtor", "creditor", "class", "claim")
+    add = {"set": "add", "debtor": "C", "creditor": "A", "class": "2", "claim": "5"}
+    yield from ({"set": word, "value": value} for word in ("cut", "keep") for value in VALUES)
+    for field in ("cash", "rule", "outside"):
+        yield from ({"set": "bank", "bank": 1, "field": field, "value": value} for value in VALUES)
+    yield from ({"set": "claim", "debt": 1, "value": value} for value in VALUES)
+    yield from ({**add, field: value} for field in fields for value in VALUES)
+    yield from ({"set": "add", **dict.fromkeys(fields, blank)} for blank in ("", " ", "\t", "    "))
 
 
 class Faults(DeskCase):
@@ -141,85 +198,38 @@ class Faults(DeskCase):
             400,
         )
 
-    def test_no_value_typed_anywhere_leads_to_a_state_that_cannot_be_shown(self):
-        desk = self.desk(self.net("A,9,order\nB,1,equal\nC,0,webster\n", "A,B,1,10\nB,C,1,9\n"))
-        values = [
-            "",
-            " ",
-            "\t",
-            "    ",
-            "0",
-            "00",
-            "-0",
-            "+5",
-            "1e3",
-            "0x1",
-            "１",
-            "٣",
-            "1_0",
-            " 7 ",
-            "\u00a07",
-            "7\u200b",
-            '"7"',
-            '"',
-            '""',
-            "7,",
-            ",,,",
-            "\ufeff7",
-            "\x00",
-            "\u202e7",
-            "\ud800",
-            "NaN",
-            "true",
-            "9" * 20,
-            "9" * 200,
-            "'",
-            ";",
-            "\x1f",
-            "=1+1",
-            "0" * 19 + "7",
-            "order",
-            "A",
-            "1",
-            "#",
-            "\u2028",
-        ]
-        add = {"set": "add", "debtor": "C", "creditor": "A", "class": "2", "claim": "5"}
-        changes = [{"set": word, "value": value} for word in ("cut", "keep") for value in values]
-        changes += [
-            {"set": "bank", "bank": 1, "field": field, "value": value}
-            for field in ("cash", "rule", "outside")
-            for value in values
-        ]
-        changes += [{"set": "claim", "debt": 1, "value": value} for value in values]
-        changes += [{**add, field: value} for field in ("debtor", "creditor", "class", "claim") for value in values]
-        changes += [
-            {"set": "add", **dict.fromkeys(("debtor", "creditor", "class", "claim"), blank)}
-            for blank in ("", " ", "\t", "    ")
-        ]
-        taken = 0
-        for change in changes:
-            status, _, body = desk.ask(
-                "POST", desk.at("/change"), desk.own(), json.dumps({"from": 0, **change}).encode()
-            )
+    def three_banks(self) -> Running:
+        """A desk on three banks and two debts."""
+        return self.desk(self.net("A,9,order\nB,1,equal\nC,0,webster\n", "A,B,1,10\nB,C,1,9\n"))
+
+    def assert_shown(self, desk: Running, view: Dict[str, Any], change: Dict[str, Any]) -> None:
+        """A state that a change led to can be shown, and is what the program says of the files that are taken away."""
+        self.assertEqual(desk.see(f"/state/{view['id']}"), view, change)
+        for bank in range(3):
+            desk.see(f"/bank/{view['id']}/{bank}")
+        for what in ("banks", "debts"):
+            self.file(f"{what}.csv", desk.see(f"/take/{view['id']}/{what}"))
+        if view["keep"] == 1000:
+            held = [[str(part) for part in row] for row in zip(view["paid"], view["owed"], view["equity"])]
+            rows = standings("defaults", *files_of(self.folder))
+            self.assertEqual(held, [row[-4:-1] for row in rows], change)
+
+    def test_no_value_typed_anywhere_leads_to_a_state_that_cannot_be_shown(self) -> None:
+        desk, taken = self.three_banks(), 0
+        for change in typed_changes():
+            asked = json.dumps({"from": 0, **change}).encode()
+            status, _, body = desk.ask("POST", desk.at("/change"), desk.own(), asked)
             self.assertIn(status, (200, 400, 422), (change, body[:200]))
-            if status != 200:
+            if status == 200:
+                taken += 1
+                self.assert_shown(desk, json.loads(body), change)
+            else:
                 self.assertIn("said", json.loads(body), change)
-                continue
-            view, taken = json.loads(body), taken + 1
-            self.assertEqual(desk.see(f"/state/{view['id']}"), view, change)
-            for bank in range(3):
-                desk.see(f"/bank/{view['id']}/{bank}")
-            # It is what the program says of the files that are taken away.
-            for what in ("banks", "debts"):
-                self.file(f"{what}.csv", desk.see(f"/take/{view['id']}/{what}"))
-            if view["keep"] == 1000:
-                held = [[str(part) for part in row] for row in zip(view["paid"], view["owed"], view["equity"])]
-                rows = standings("defaults", *files_of(self.folder))
-                self.assertEqual(held, [row[-4:-1] for row in rows], change)
         self.assertGreater(taken, 20)
-        # A name, a note or a scenario is a text, whatever it is.
-        for value in values:
+
+    def test_a_name_a_note_and_a_scenario_are_texts_whatever_they_are(self) -> None:
+        desk = self.three_banks()
+        for value in VALUES:
             for path, what in (
                 ("/keep", {"state": 0, "name": value, "note": value}),
                 ("/scenario", {"name": value, "cut": value, "losses": [[0, value]]}),

@@ -3,6 +3,7 @@ tests/system/model.py where that is quick enough, else by another route to the s
 import random
 import sys
 import unittest
+from typing import List, Tuple
 
 from common import ROOT, clearing
 from compared import Compared
@@ -122,61 +123,69 @@ class Largest(Compared):
         rows = [line.split(",") for line in self.printed("defaults", *files).splitlines()[1:-2]]
         return [int(row[2]) + int(row[5]) for row in rows], [row[-1] for row in rows]
 
-    def turned_round(self, net):
+    def turned_round(self, net: model.Net) -> None:
         """Of some banks what `breaking`, `impact` and `rescues` say, by the networks that are meant."""
         kept, states = self.standing(net.banks)
         some = [0, *range(3, BANKS, 211)]
         with self.subTest(task="impact"):
-            first, second = (part.splitlines()[1:] for part in self.text("impact").split("\n\n"))
-            for j in some:
-                then, after = self.standing(
-                    [bank._replace(cash=0) if i == j else bank for i, bank in enumerate(net.banks)]
-                )
-                lost = [old - new for old, new in zip(kept, then)]
-                falls = [old == "sound" != new for old, new in zip(states, after)]
-                name, cash = net.banks[j].name, net.banks[j].cash
-                self.assertEqual(first[j], f"{name},{cash},{lost[j]},{cash - lost[j]},{sum(falls) - falls[j]}")
-                wanted = [
-                    f"{name},{net.banks[i].name},{lost[i]},{'yes' if falls[i] else 'no'}"
-                    for i in range(BANKS)
-                    if lost[i] or falls[i]
-                ]
-                self.assertEqual([line for line in second if line.startswith(f"{name},")], wanted)
+            self.impact_of(net, some, kept, states)
         with self.subTest(task="breaking"):
-            lines = [line.split(",") for line in self.text("breaking").splitlines()[1:]]
-            self.assertEqual([line[0] for line in lines], [bank.name for bank in net.banks])
-            for at in some:
-                cut = int(lines[at][1])
-                for tried in {cut - 1, cut} & set(range(1001)):
-                    after = self.standing(model.shocked(net, model.Scenario("", tried, [])).banks)[1][at]
-                    self.assertEqual(after, lines[at][2] if tried == cut else "sound", (at, tried))
-                self.assertEqual(lines[at][2] == "sound", cut == 1001)
+            self.breaking_of(net, some)
         with self.subTest(task="rescues"):
-            first, second = (part.splitlines()[1:] for part in self.text("rescues").split("\n\n"))
-            short = [i for i in range(BANKS) if states[i] != "sound"]
-            self.assertEqual([line.split(",")[0] for line in first], [net.banks[i].name for i in short])
-            for at in range(0, len(short), 97):
-                name, added, lacks, also, still = first[at].split(",")
-                told = self.text("rescue", "--bank", name).split("\n", 2)
-                self.assertEqual(told[:2], [f"rescue,{name},{added}", f"short,{lacks}"])
-                after = self.standing(
-                    [
-                        bank._replace(cash=bank.cash + int(added)) if i == short[at] else bank
-                        for i, bank in enumerate(net.banks)
-                    ]
-                )[1]
-                others = [net.banks[i].name for i in short if after[i] == "sound" and i != short[at]]
-                self.assertEqual((also, still), (f"{len(others)}", f"{BANKS - after.count('sound')}"))
-                self.assertEqual(
-                    [line for line in second if line.startswith(f"{name},")], [f"{name},{other}" for other in others]
-                )
+            self.rescues_of(net, states)
 
-    def test_large_claims_by_another_route(self):
+    def impact_of(self, net: model.Net, some: List[int], kept: List[int], states: List[str]) -> None:
+        """What falls with each of some banks, by the network in which it has no cash."""
+        first, second = (part.splitlines()[1:] for part in self.text("impact").split("\n\n"))
+        for j in some:
+            then, after = self.standing([bank._replace(cash=0) if i == j else bank for i, bank in enumerate(net.banks)])
+            lost = [old - new for old, new in zip(kept, then)]
+            falls = [old == "sound" != new for old, new in zip(states, after)]
+            name, cash = net.banks[j].name, net.banks[j].cash
+            self.assertEqual(first[j], f"{name},{cash},{lost[j]},{cash - lost[j]},{sum(falls) - falls[j]}")
+            wanted = [
+                f"{name},{net.banks[i].name},{lost[i]},{'yes' if falls[i] else 'no'}"
+                for i in range(BANKS)
+                if lost[i] or falls[i]
+            ]
+            self.assertEqual([line for line in second if line.startswith(f"{name},")], wanted)
+
+    def breaking_of(self, net: model.Net, some: List[int]) -> None:
+        """The cut that breaks each of some banks, by the networks of that cut and of one below."""
+        lines = [line.split(",") for line in self.text("breaking").splitlines()[1:]]
+        self.assertEqual([line[0] for line in lines], [bank.name for bank in net.banks])
+        for at in some:
+            cut = int(lines[at][1])
+            for tried in {cut - 1, cut} & set(range(1001)):
+                after = self.standing(model.shocked(net, model.Scenario("", tried, [])).banks)[1][at]
+                self.assertEqual(after, lines[at][2] if tried == cut else "sound", (at, tried))
+            self.assertEqual(lines[at][2] == "sound", cut == 1001)
+
+    def rescues_of(self, net: model.Net, states: List[str]) -> None:
+        """What saves each of some banks in default, by the network in which it has as much more."""
+        first, second = (part.splitlines()[1:] for part in self.text("rescues").split("\n\n"))
+        short = [i for i in range(BANKS) if states[i] != "sound"]
+        self.assertEqual([line.split(",")[0] for line in first], [net.banks[i].name for i in short])
+        for at in range(0, len(short), 97):
+            name, added, lacks, also, still = first[at].split(",")
+            told = self.text("rescue", "--bank", name).split("\n", 2)
+            self.assertEqual(told[:2], [f"rescue,{name},{added}", f"short,{lacks}"])
+            after = self.standing(model.added(net, short[at], int(added)).banks)[1]
+            others = [net.banks[i].name for i in short if after[i] == "sound" and i != short[at]]
+            self.assertEqual((also, still), (f"{len(others)}", f"{BANKS - after.count('sound')}"))
+            self.assertEqual(
+                [line for line in second if line.startswith(f"{name},")], [f"{name},{other}" for other in others]
+            )
+
+    def large(self) -> Tuple[model.Net, str, List[int]]:
+        """The network of large claims, which is written; what `central` prints of it, and what it pays of each debt."""
         net = large_claims()
         self.write(net)
         payments = self.text("central")
-        paid = [int(line.split(",")[4]) for line in payments.splitlines()[1:]]
-        # No list of payments that clears pays more than is owed or there, and money goes nowhere.
+        return net, payments, [int(line.split(",")[4]) for line in payments.splitlines()[1:]]
+
+    def test_large_claims_pay_no_more_than_is_owed_or_there_and_no_money_goes_astray(self) -> None:
+        net, payments, paid = self.large()
         self.assertTrue(all(0 <= units <= debt.claim for units, debt in zip(paid, net.debts)))
         self.assertTrue(payments == model.payments_text(net, paid))
         defaults = model.defaults_text(net, paid)
@@ -184,52 +193,42 @@ class Largest(Compared):
         self.assertEqual(total[0], sum(bank.cash for bank in net.banks) + sum(paid))
         self.assertGreater(total[5], 100)
         self.same(defaults, "defaults")
+        with self.subTest(task="compress"):
+            self.assertIsNone(judge_compression(net, self.text("compress")))
+
+    def test_the_journal_of_large_claims_is_lawful_for_the_program_and_the_audit(self) -> None:
+        _, payments, _ = self.large()
         for words in (["--workers", "1"], ["--workers", "4", "--sweeps", "3"]):
             with self.subTest(task="journal", words=words):
                 shown, _, journal = self.text("clear", "--show", "both", *words).partition("\n\n")
                 self.assertTrue(shown + "\n" == payments)
-                raises = journal.count("\n") - 2
-                self.same(f"lawful,{raises}\n\n{payments}", "replay", "--journal", self.file("journal.csv", journal))
-                told = self.made(
-                    "clearing-audit",
-                    *self.files,
-                    "--journal",
-                    self.file("journal.csv", journal),
-                    "--payments",
-                    self.file("payments.csv", payments),
-                )
+                raises, kept = journal.count("\n") - 2, self.file("journal.csv", journal)
+                self.same(f"lawful,{raises}\n\n{payments}", "replay", "--journal", kept)
+                paid = self.file("payments.csv", payments)
+                told = self.made("clearing-audit", *self.files, "--journal", kept, "--payments", paid)
                 self.assertIn(f"{raises} raises lawful\nnobody can pay more\npayments same\n", told)
+
+    def test_the_bounds_of_large_claims_begin_at_the_payments(self) -> None:
+        _, payments, paid = self.large()
+        bounds = self.text("bounds").partition("\n\n")[0]
+        rows = [[int(field) for field in line.split(",")[3:6]] for line in bounds.splitlines()[1:]]
         with self.subTest(task="bounds"):
-            bounds = self.text("bounds").partition("\n\n")[0].splitlines()[1:]
-            self.assertEqual([int(line.split(",")[4]) for line in bounds], paid)
-            self.assertTrue(
-                all(int(line.split(",")[4]) <= int(line.split(",")[5]) <= int(line.split(",")[3]) for line in bounds)
-            )
+            self.assertEqual([least for _, least, _ in rows], paid)
+            self.assertTrue(all(least <= greatest <= claim for claim, least, greatest in rows))
         self.same(payments, "costs", "--keep", "1000", cut=lambda text: text.partition("\n\n")[0] + "\n")
-        self.same(
-            self.text("bounds").partition("\n\n")[0],
-            "cost-bounds",
-            "--keep",
-            "1000",
-            cut=lambda text: text.partition("\n\n")[0],
-        )
-        with self.subTest(task="compress"):
-            self.assertIsNone(judge_compression(net, self.text("compress")))
-        # With the sum that saves a bank it is sound, and with a unit less it lacks what is said.
+        self.same(bounds, "cost-bounds", "--keep", "1000", cut=lambda text: text.partition("\n\n")[0])
+
+    def test_with_its_rescue_a_bank_of_large_claims_is_sound_and_with_a_unit_less_it_is_short(self) -> None:
+        net, _, paid = self.large()
         bank = next(i for i in range(BANKS) if model.due(net, i) > model.estate(net, paid, i))
         first, second, _, shown = self.text("rescue", "--bank", net.banks[bank].name).split("\n", 3)
         added, lacks = int(first.split(",")[2]), int(second.split(",")[1])
         for units, short in ((added, 0), (added - 1, lacks)):
-            files = [
-                "--banks",
-                self.file("richer.csv", model.banks_text(model.added(net, bank, units), True)),
-                *self.files[2:],
-            ]
+            richer = model.added(net, bank, units)
+            files = ["--banks", self.file("richer.csv", model.banks_text(richer, True)), *self.files[2:]]
             told = self.printed("central", *files)
             given = [int(line.split(",")[4]) for line in told.splitlines()[1:]]
-            self.assertEqual(
-                max(0, model.due(net, bank) - model.estate(model.added(net, bank, units), given, bank)), short
-            )
+            self.assertEqual(max(0, model.due(net, bank) - model.estate(richer, given, bank)), short)
             if not short:
                 self.assertTrue(shown == told)
 

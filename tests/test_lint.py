@@ -364,6 +364,69 @@ class MadeJournal(Made):
         return self.changed_bytes(data) if pick.random() < 0.2 else data
 
 
+SCENARIO_FAULTS = (
+    '[[scenario]]\nname = "a"\ncut = 1001\nCut = 5\n\n[[scenario]]\nname = "b,c"\n[[scenario.loss]]\n'
+    'bank = "a"\namount = 7\n'
+    '[[scenario.loss]]\nbank = "B"\namount = -1\n[[scenario.loss]]\nbank = "B"\namount = "7"\n'
+)
+# A file of scenarios, and what is told of it.
+TOLD_OF_SCENARIOS = [
+    (
+        SCENARIO_FAULTS,
+        [
+            "line 1 (row 1) Cut: shape (17): the scenario has a key 'Cut'; is it cut?",
+            "line 1 (row 1) cut: limit (6): 1,001 is more than 1,000; a cut is per mille: 0 to 1,000",
+            "line 6 (row 2) amount: shape (17): amount is not a whole number, without quotes or a point",
+            "line 6 (row 2) name: name (3): the name 'b,c' has a comma; write the name without it",
+            (
+                "line 6 (row 2) bank: unknown bank (8): no bank has the name 'a'; the banks file has 'A'; they "
+                "differ by capitals, or other spaces or signs"
+            ),
+            "line 6 (row 2) amount: limit (6): -1 is below 0; write it without a sign",
+            "line 6 (row 2) bank: double bank (7): the bank 'B' has two losses; add them up",
+            "7 faults",
+        ],
+    ),
+    (
+        "[[scenario]]\nname = “a”\n",
+        [
+            (
+                "line 2 (row 0): toml (16): it is not TOML: Invalid value (at line 2, column 8); quotes are "
+                'straight: "'
+            ),
+            "1 fault",
+        ],
+    ),
+    (
+        '[[scenario]]\nname = "a"\ncut = 1,000\n',
+        [
+            (
+                "line 3 (row 0): toml (16): it is not TOML: Expected newline or end of document after a "
+                "statement (at line 3, column 8)"
+                "; write the number without separators between thousands"
+            ),
+            "1 fault",
+        ],
+    ),
+    (
+        '[scenario]\nname = "a"\n',
+        [
+            (
+                "line 1 (row 0) scenario: shape (17): scenario is no array of tables; write [[scenario]], with "
+                "two brackets at each end"
+            ),
+            "1 fault",
+        ],
+    ),
+    (
+        '[[scenarios]]\nname = "a"\n',
+        ["line 1 (row 0): shape (17): the document has a key 'scenarios'; write [[scenario]]", "1 fault"],
+    ),
+    ("\ufeff[[scenario]]\ncut = 1\n", ["line 1 (row 1) name: shape (17): the scenario has no name", "1 fault"]),
+    ("", ["no fault"]),
+]
+
+
 class Lint(Case):
     def first_of_program(self, at, files):
         """What the program says of two files, or of three: nothing where it accepts them, and else its first fault."""
@@ -618,75 +681,11 @@ class Lint(Case):
             self.assertIn(hint, done[0])
 
     @unittest.skipIf(sys.version_info < (3, 11), "TOML is read by Python 3.11 or later")
-    def test_faults_of_scenarios_have_their_lines_and_hints(self):
-        text = (
-            '[[scenario]]\nname = "a"\ncut = 1001\nCut = 5\n\n[[scenario]]\nname = "b,c"\n[[scenario.loss]]\n'
-            'bank = "a"\namount = 7\n'
-            '[[scenario.loss]]\nbank = "B"\namount = -1\n[[scenario.loss]]\nbank = "B"\namount = "7"\n'
-        )
-        for content, lines in [
-            (
-                text,
-                [
-                    "line 1 (row 1) Cut: shape (17): the scenario has a key 'Cut'; is it cut?",
-                    "line 1 (row 1) cut: limit (6): 1,001 is more than 1,000; a cut is per mille: 0 to 1,000",
-                    "line 6 (row 2) amount: shape (17): amount is not a whole number, without quotes or a point",
-                    "line 6 (row 2) name: name (3): the name 'b,c' has a comma; write the name without it",
-                    (
-                        "line 6 (row 2) bank: unknown bank (8): no bank has the name 'a'; the banks file has 'A'; they "
-                        "differ by capitals, or other spaces or signs"
-                    ),
-                    "line 6 (row 2) amount: limit (6): -1 is below 0; write it without a sign",
-                    "line 6 (row 2) bank: double bank (7): the bank 'B' has two losses; add them up",
-                    "7 faults",
-                ],
-            ),
-            (
-                "[[scenario]]\nname = “a”\n",
-                [
-                    (
-                        "line 2 (row 0): toml (16): it is not TOML: Invalid value (at line 2, column 8); quotes are "
-                        'straight: "'
-                    ),
-                    "1 fault",
-                ],
-            ),
-            (
-                '[[scenario]]\nname = "a"\ncut = 1,000\n',
-                [
-                    (
-                        "line 3 (row 0): toml (16): it is not TOML: Expected newline or end of document after a "
-                        "statement (at line 3, column 8)"
-                        "; write the number without separators between thousands"
-                    ),
-                    "1 fault",
-                ],
-            ),
-            (
-                '[scenario]\nname = "a"\n',
-                [
-                    (
-                        "line 1 (row 0) scenario: shape (17): scenario is no array of tables; write [[scenario]], with "
-                        "two brackets at each end"
-                    ),
-                    "1 fault",
-                ],
-            ),
-            (
-                '[[scenarios]]\nname = "a"\n',
-                ["line 1 (row 0): shape (17): the document has a key 'scenarios'; write [[scenario]]", "1 fault"],
-            ),
-            ("\ufeff[[scenario]]\ncut = 1\n", ["line 1 (row 1) name: shape (17): the scenario has no name", "1 fault"]),
-            ("", ["no fault"]),
-        ]:
+    def test_faults_of_scenarios_have_their_lines_and_hints(self) -> None:
+        banks, debts = self.file("b.csv", NETWORK["banks"]), self.file("d.csv", NETWORK["debts"])
+        for content, lines in TOLD_OF_SCENARIOS:
             name = self.file("s.toml", content)
-            done = self.run_lint(
-                int(lines != ["no fault"]),
-                self.file("b.csv", NETWORK["banks"]),
-                self.file("d.csv", NETWORK["debts"]),
-                "--scenarios",
-                name,
-            )
+            done = self.run_lint(int(lines != ["no fault"]), banks, debts, "--scenarios", name)
             self.assertEqual(done, [f"{name} {line}" for line in lines[:-1]] + lines[-1:])
 
     def test_faults_of_journals_have_their_lines_and_hints(self):

@@ -2,7 +2,9 @@
 import hashlib
 import json
 import os
+import pathlib
 import subprocess
+from typing import Any, Dict, List, Mapping, Tuple
 
 from common import CHAIN, ROOT, Case, tool
 
@@ -15,6 +17,72 @@ echo run >>"$COUNTED"
 if [ "$1" = fail ]; then echo "refused" >&2; echo part; exit "$2"; fi
 printf '%s\\n' "$@"
 """
+
+
+# Cases as others describe them: files, and the resources that a description names.
+FILES = {name: (CHAIN / f"{name}.csv").read_bytes() for name in ("banks", "debts")}
+LARGE = {
+    "banks": b"name,cash,rule\n" + b"".join(b"N%d,1,order\n" % n for n in range(1001)),
+    "debts": b"debtor,creditor,class,claim\n",
+}
+PLAIN = [{"name": name, "path": f"{name}.csv"} for name in FILES]
+HASHED = [{**one, "hash": f"sha256:{hashlib.sha256(FILES[one['name']]).hexdigest()}"} for one in PLAIN]
+SWAPPED = [{**one, "hash": two["hash"]} for one, two in zip(PLAIN, HASHED[::-1])]
+WIDELY = "{tool}the network is read by the wide limits, as it has more than 1,000 banks; --limits wide says so"
+
+
+def document(resources: List[Dict[str, str]], **more: Any) -> str:
+    """The text of a description."""
+    return json.dumps({"name": "a", "resources": resources, **more})
+
+
+# Of each case that is taken its files and description, whether it is read by the wide limits, and what is told of it.
+TAKEN: Dict[str, Tuple[Dict[str, bytes], str, bool, List[str]]] = {
+    "without checksums": (FILES, document(PLAIN), False, []),
+    "with them": (FILES, document(HASHED), False, []),
+    "with others": (
+        FILES,
+        document(SWAPPED),
+        False,
+        [f"{{case}}{name}.csv is not the file that was described" for name in ("banks", "debts")],
+    ),
+    "with another that is not there": (
+        FILES,
+        document([*HASHED, {"name": "c", "path": "c.csv"}]),
+        False,
+        ["{case}c.csv is described, and is not there"],
+    ),
+    "with unknown keys": (
+        FILES,
+        document(HASHED, clearing={"colour": "red"}),
+        False,
+        ["{case}the key clearing.colour is unknown"],
+    ),
+    "with limits in a text": (FILES, document(PLAIN, title='"limits": "wide"'), False, []),
+    "with limits by codes": (
+        FILES,
+        document(PLAIN, clearing={"limits": "wi\\u0064e"}).replace("\\\\u", "\\u"),
+        True,
+        [],
+    ),
+    "large": (LARGE, document(PLAIN), True, [WIDELY]),
+    "large, and it was standard": (LARGE, document(PLAIN, clearing={"limits": "standard"}), True, [WIDELY]),
+    "large, and wide": (LARGE, document(PLAIN, clearing={"limits": "wide"}), True, []),
+}
+# Of each description that is refused the status, and how the fault begins.
+REFUSED = {
+    "with a fault": (
+        document(PLAIN, clearing={"limits": "wider"}),
+        4,
+        "{}: clearing.limits: 'wider' is not one of standard, wide\n",
+    ),
+    "with a path outside": (
+        document([{"name": "a", "path": "../a.csv"}]),
+        4,
+        "{}: resources[0].path: '../a.csv' is not a path below the folder\n",
+    ),
+    "no JSON": ("{", 4, "{}: datapackage.json is not JSON in UTF-8: "),
+}
 
 
 class Many(Case):
@@ -76,84 +144,48 @@ class Many(Case):
         told = "case: a case: banks.csv is not the file that was described\n"
         self.assertEqual((done.stdout, done.stderr, self.runs()), ("5 done, 0 failed\n", 5 * told, 9))
 
-    def test_a_case_is_read_as_all_other_tools_read_it(self):
-        """Descriptions as others write them: what is told of a case, and where it is refused, is what `clearing-case`
-        tells."""
-        files = {name: (CHAIN / f"{name}.csv").read_bytes() for name in ("banks", "debts")}
-        digests = {name: hashlib.sha256(data).hexdigest() for name, data in files.items()}
-        plain = [{"name": name, "path": f"{name}.csv"} for name in files]
-        hashed = [{**one, "hash": f"sha256:{digests[one['name']]}"} for one in plain]
-        swapped = [{**one, "hash": two["hash"]} for one, two in zip(plain, hashed[::-1])]
-        large = {
-            "banks": b"name,cash,rule\n" + b"".join(b"N%d,1,order\n" % n for n in range(1001)),
-            "debts": b"debtor,creditor,class,claim\n",
-        }
-        documents = {
-            "without checksums": (files, {"name": "a", "resources": plain}),
-            "with them": (files, {"name": "a", "resources": hashed}),
-            "with others": (files, {"name": "a", "resources": swapped}),
-            "with another that is not there": (
-                files,
-                {"name": "a", "resources": [*hashed, {"name": "c", "path": "c.csv"}]},
-            ),
-            "with unknown keys": (files, {"name": "a", "resources": hashed, "clearing": {"colour": "red"}}),
-            "with limits in a text": (files, {"name": "a", "resources": plain, "title": '"limits": "wide"'}),
-            "with limits by codes": (files, {"name": "a", "resources": plain, "clearing": {"limits": "wi\\u0064e"}}),
-            "large": (large, {"name": "a", "resources": plain}),
-            "large, and it was standard": (
-                large,
-                {"name": "a", "resources": plain, "clearing": {"limits": "standard"}},
-            ),
-            "large, and wide": (large, {"name": "a", "resources": plain, "clearing": {"limits": "wide"}}),
-            "with a fault": (files, {"name": "a", "resources": plain, "clearing": {"limits": "wider"}}),
-            "with a path outside": (files, {"name": "a", "resources": [{"name": "a", "path": "../a.csv"}]}),
-            "no JSON": (files, None),
-        }
-        lines = []
-        for at, (about, (data, document)) in enumerate(documents.items()):
-            place = self.folder / f"case {at}"
-            place.mkdir()
-            for name, content in data.items():
-                (place / f"{name}.csv").write_bytes(content)
-            text = "{" if document is None else json.dumps(document).replace("\\\\u", "\\u")
-            (place / "datapackage.json").write_text(text)
-            lines.append(f"job-{at}\tdefaults\t--case\t{place}\n")
-        (self.folder / "case empty").mkdir()
-        lines += [f"job-{one}\tdefaults\t--case={self.folder}/case {one}\n" for one in ("empty", "none")]
-        done = self.many("run", self.file("jobs.tsv", "".join(lines)), "out", 4)
-        told = done.stderr.splitlines()
-        for at, about in [*enumerate(documents), ("empty", "empty"), ("none", "none")]:
-            place, out = self.folder / f"case {at}", self.folder / f"out/job-{at}.out"
-            others = tool("clearing-lint", place)
+    def described(self, name: str, files: Mapping[str, bytes], document: str) -> pathlib.Path:
+        """A folder of some files and a description."""
+        place = self.folder / name
+        place.mkdir()
+        for stem, content in files.items():
+            (place / f"{stem}.csv").write_bytes(content)
+        (place / "datapackage.json").write_text(document)
+        return place
+
+    def test_of_a_case_that_is_taken_it_tells_what_the_other_tools_tell(self) -> None:
+        places = {f"job-{at}": self.described(f"case {at}", *case[:2]) for at, case in enumerate(TAKEN.values())}
+        lines = "".join(f"{job}\tdefaults\t--case\t{place}\n" for job, place in places.items())
+        done = self.many("run", self.file("jobs.tsv", lines), "out", 4)
+        self.assertEqual(done.stdout, "10 done, 0 failed\n")
+        wanted = []
+        for (job, place), (about, (_, _, is_wide, notes)) in zip(places.items(), TAKEN.items()):
             with self.subTest(about):
-                if others.returncode in (3, 4):
-                    failed = (self.folder / f"out/job-{at}.failed").read_text()
-                    want = others.stderr.replace("clearing-lint: ", "clearing-many: ")
-                    self.assertEqual((failed, out.exists()), (f"status {others.returncode}\n{want}", False))
-                    continue
-                widely = "the network is read by the wide limits"
-                self.assertEqual("--limits=wide" in out.read_text(), "large" in about or "by codes" in about)
-                self.assertEqual(
-                    [
-                        line.partition("; ")[0].partition(f"job-{at}: ")[2]
-                        for line in told
-                        if line.startswith(f"clearing-many: job-{at}:")
-                    ],
-                    [
-                        line.partition("; ")[0].partition(": ")[2]
-                        for line in others.stderr.splitlines()
-                        if widely in line
-                    ],
-                )
-                self.assertEqual(
-                    [line for line in told if line.startswith((f"case: {place}:", f"case: {place}/"))],
-                    [
-                        line.replace("case: ", f"case: {place}: ")
-                        for line in others.stderr.splitlines()
-                        if line.startswith("case: ")
-                    ],
-                )
-        self.assertEqual(done.stdout, f"{len(lines) - 5} done, 5 failed\n")
+                wanted += [note.format(case=f"case: {place}: ", tool=f"clearing-many: {job}: ") for note in notes]
+                others = tool("clearing-lint", place)
+                told = "".join(note.format(case="case: ", tool="clearing-lint: ") + "\n" for note in notes)
+                self.assertEqual((others.returncode, others.stderr), (0, told))
+                self.assertEqual("--limits=wide" in (self.folder / f"out/{job}.out").read_text(), is_wide)
+        self.assertEqual(sorted(done.stderr.splitlines()), sorted(wanted))
+
+    def test_a_case_that_is_refused_is_refused_in_the_words_of_the_other_tools(self) -> None:
+        places = {f"job-{at}": self.described(f"case {at}", FILES, case[0]) for at, case in enumerate(REFUSED.values())}
+        (self.folder / "case empty").mkdir()
+        places |= {f"job-{name}": self.folder / f"case {name}" for name in ("empty", "none")}
+        whys = [*(case[1:] for case in REFUSED.values()), (4, "{}: it has no banks.csv, and is no case\n")]
+        whys.append((3, "cannot read {}: there is no such folder\n"))
+        lines = "".join(f"{job}\tdefaults\t--case={place}\n" for job, place in places.items())
+        done = self.many("run", self.file("jobs.tsv", lines), "out", 4)
+        self.assertEqual(done.stdout, "0 done, 5 failed\n")
+        for (job, place), (status, why) in zip(places.items(), whys):
+            with self.subTest(why):
+                others = tool("clearing-lint", place)
+                self.assertEqual(others.returncode, status)
+                self.assertTrue(others.stderr.startswith(f"clearing-lint: {why.format(place)}"), others.stderr)
+                failed = (self.folder / f"out/{job}.failed").read_text()
+                told = others.stderr.replace("clearing-lint: ", "clearing-many: ")
+                self.assertEqual(failed, f"status {status}\n{told}")
+                self.assertFalse((self.folder / f"out/{job}.out").exists())
 
     def test_as_many_jobs_are_run_at_a_time_as_processors_may_be_used(self):
         jobs = self.file("jobs.tsv", "".join(f"{at}\tgen\n" for at in range(6)))

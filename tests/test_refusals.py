@@ -2,12 +2,16 @@
 no output. Each fault of a record stands in an early row and in late ones, and behind few good records and many, since
 a row's number and what stands before it must change nothing else."""
 import concurrent.futures
+import pathlib
 import re
 import subprocess
 import unittest
+from typing import Iterable, Iterator, List, Sequence, Tuple, Union
 
 from common import PROGRAM, ROOT, Case
 
+# The words of a command line, which may be no text.
+Words = Sequence[Union[str, bytes]]
 FORMATS = (ROOT / "docs/FORMATS.md").read_text()
 TABLE = FORMATS.partition("| number | kind |")[2].partition("\n\n")[0]
 NUMBERS = {kind: int(number) for number, kind in re.findall(r"^\| ([0-9]+) \| ([a-z ]+) \|", TABLE, re.M)}
@@ -158,38 +162,42 @@ def one(name, *rest):
     return f"[[scenario]]\nname = {name}\n" + "".join(f"{text}\n" for text in rest)
 
 
-def scenario_faults():
-    """The kind of a fault, and the text of a scenario that has it."""
-    loss = lambda bank, amount: f'[[scenario.loss]]\nbank = "{bank}"\namount = {amount}'
-    shapes = [
-        "[[scenario]]\n",
-        "[[scenario]]\ncut = 1\n",
-        one("1"),
-        one('["a"]'),
-        one('"a"', "cuts = 1"),
-        one('"a"', 'cut = "1"'),
-        one('"a"', "cut = 1.0"),
-        one('"a"', "loss = 1"),
-        one('"a"', "loss = [1]"),
-        one('"a"', "[[scenario.loss]]"),
-        one('"a"', '[[scenario.loss]]\nbank = "A"'),
-        one('"a"', "[[scenario.loss]]\namount = 1"),
-        one('"a"', loss("A", 1), "more = 1"),
-        one('"a"', loss("A", '"1"')),
-        one('"a"', loss("A", "1.0")),
-        one('"a"', "[scenario.loss]"),
-        one('"a"', loss("A", 1), loss("B", 1), "[[scenario.loss]]\nbank = 1\namount = 1"),
-        one('""', "x = 1"),
-    ]
+def loss(bank: str, amount: Union[int, str]) -> str:
+    """A loss of a scenario."""
+    return f'[[scenario.loss]]\nbank = "{bank}"\namount = {amount}'
+
+
+SHAPES = [
+    "[[scenario]]\n",
+    "[[scenario]]\ncut = 1\n",
+    one("1"),
+    one('["a"]'),
+    one('"a"', "cuts = 1"),
+    one('"a"', 'cut = "1"'),
+    one('"a"', "cut = 1.0"),
+    one('"a"', "loss = 1"),
+    one('"a"', "loss = [1]"),
+    one('"a"', "[[scenario.loss]]"),
+    one('"a"', '[[scenario.loss]]\nbank = "A"'),
+    one('"a"', "[[scenario.loss]]\namount = 1"),
+    one('"a"', loss("A", 1), "more = 1"),
+    one('"a"', loss("A", '"1"')),
+    one('"a"', loss("A", "1.0")),
+    one('"a"', "[scenario.loss]"),
+    one('"a"', loss("A", 1), loss("B", 1), "[[scenario.loss]]\nbank = 1\namount = 1"),
+    one('""', "x = 1"),
     # Keys with dots, and a loss of three keys; another shape is told before the values in it.
-    shapes += [
-        "[[scenario]]\nname.first = 'a'\n",
-        one('""', "cut = 0.5"),
-        one('""', "[scenario.loss]"),
-        one('""', 'loss = [{ bank = "X", amount = 1, a = 1 }]'),
-        one('""', 'loss = [{ bank = "X", amount = 1.0 }]'),
-    ]
-    yield from (("shape", text) for text in shapes)
+    "[[scenario]]\nname.first = 'a'\n",
+    one('""', "cut = 0.5"),
+    one('""', "[scenario.loss]"),
+    one('""', 'loss = [{ bank = "X", amount = 1, a = 1 }]'),
+    one('""', 'loss = [{ bank = "X", amount = 1.0 }]'),
+]
+
+
+def scenario_faults() -> Iterator[Tuple[str, str]]:
+    """The kind of a fault, and the text of a scenario that has it."""
+    yield from (("shape", text) for text in SHAPES)
     yield from (
         ("name", one(f'"{name}"'))
         for name in ["", "x" * 65, "x" * 100, "é" * 33, "😀" * 17, "x" * 5_000, "a,b", "a\\u0007", 'a\\"b']
@@ -253,6 +261,174 @@ def documents():
         'scenario = "' + "x" * 200_000 + '"',
     ]:
         yield "shape", text
+
+
+# The options that each task requires, and one of each name, with a value that may stand there.
+BANKS, DEBTS, KEEP = ["--banks", "b"], ["--debts", "d"], ["--keep", "1"]
+REQUIRED = {
+    "check": [BANKS, DEBTS],
+    "clear": [BANKS, DEBTS],
+    "central": [BANKS, DEBTS],
+    "defaults": [BANKS, DEBTS],
+    "convert": [BANKS, DEBTS],
+    "stress": [BANKS, DEBTS, ["--scenarios", "s"]],
+    "replay": [BANKS, DEBTS, ["--journal", "j"]],
+    "bounds": [BANKS, DEBTS],
+    "gen": [["--seed", "1"], ["--size", "1"], ["--tries", "1"]],
+    "rescue": [BANKS, DEBTS, ["--bank", "A"]],
+    "compress": [BANKS, DEBTS],
+    "costs": [BANKS, DEBTS, KEEP],
+    "cost-bounds": [BANKS, DEBTS, KEEP],
+    "breaking": [BANKS, DEBTS],
+    "impact": [BANKS, DEBTS],
+    "rescues": [BANKS, DEBTS],
+    "outcomes": [BANKS, DEBTS, ["--scenarios", "s"]],
+}
+TASKS_OF_WORKERS = ["clear", "defaults", "stress", "gen", "bounds", "rescue"]
+ONE_OF_EACH = [
+    ["--scenarios", "s"],
+    ["--journal", "j"],
+    ["--bank", "A"],
+    ["--seed", "1"],
+    ["--size", "1"],
+    ["--tries", "1"],
+    KEEP,
+    ["--show", "both"],
+    ["--workers", "1"],
+    ["--sweeps", "1"],
+    BANKS,
+    DEBTS,
+]
+CLEAR = ["clear", *BANKS, *DEBTS]
+
+# Words that name no task.
+NO_TASK: List[Words] = [
+    [],
+    [""],
+    ["x"],
+    ["Clear"],
+    ["clears"],
+    ["x" * 300],
+    ["é" * 100],
+    ["--"],
+    ["-"],
+    ["--help"],
+    ["-h"],
+    ["--version"],
+    ["help"],
+    ["--banks"],
+    ["--x"],
+    ["--", "--banks"],
+    ["--workers", "1"],
+    ["-x", *BANKS, *DEBTS],
+    ["-V"],
+    ["cost_bounds", *BANKS, *DEBTS, "--keep=5"],
+]
+
+# Options without a value, with one dash or of another name, and values that are none.
+OPTIONS_OUT_OF_FORM: List[Words] = [
+    [*CLEAR, ""],
+    ["clear", "--banks", *DEBTS],
+    ["clear", "--banks", "--", "b", *DEBTS],
+    ["clear", "-banks", "b", *DEBTS],
+    ["clear", *BANKS, "--debts="],
+    ["clear", *BANKS, "--debts", "-"],
+    [*CLEAR, "--workers", " 1"],
+    ["clear", "--banks=a", "--debts=d", "--banks=b"],
+    [*CLEAR, "--threads=2"],
+    ["rescue", *BANKS, *DEBTS, "--bank=a,b"],
+    ["gen", "--seed=1", "--size=0", "--tries=0"],
+    *([*CLEAR, f"--show={value}"] for value in ("", "x", "Both", "x" * 300)),
+    *(["clear", "--banks", name, *DEBTS] for name in ("", "-b", "-")),
+    *(["rescue", *BANKS, *DEBTS, "--bank", name] for name in ("", "-A")),
+]
+
+NO_TEXT: List[Words] = [
+    [b"\xff"],
+    ["clear", *BANKS, "--debts", b"\xff"],
+    [*CLEAR, b"\xc3"],
+    [b"x" * 100 + b"\xff", *["x"] * 20],
+]
+
+
+def required_words(task: str) -> List[str]:
+    """The options that a task requires, in one list of words."""
+    return [word for option in REQUIRED[task] for word in option]
+
+
+def may_have(task: str, option: Sequence[str]) -> bool:
+    """Whether a task has an option that it does not require."""
+    if option[0] in ("--workers", "--sweeps"):
+        return task in TASKS_OF_WORKERS
+    return option[0] == "--show" and task == "clear"
+
+
+def words_about(task: str) -> Iterator[Words]:
+    """A task twice, behind its options or between other words; and options that it does not know."""
+    words = required_words(task)
+    yield from ([task], [task, task, *words], [*words], [task, *words, "--", "x"], ["--", task, *words])
+    yield from ([task, *words, "--help"], ["x", *words])
+    yield from ([task, *words, more] for more in ("--x", "--x=1", "-x", "x", "--workers"))
+
+
+def options_out_of_place(task: str) -> Iterator[Words]:
+    """A task without one of its options, with one of them twice, or with one of another task."""
+    options, words = REQUIRED[task], required_words(task)
+    for left in options:
+        yield [task, *(word for option in options if option is not left for word in option)]
+    yield from ([task, *words, *option] for option in options)
+    yield from (
+        [task, *words, *option] for option in ONE_OF_EACH if option not in options and not may_have(task, option)
+    )
+
+
+def values_beyond() -> Iterator[Words]:
+    """Values below or above what an option takes, and values that are no numbers."""
+    for task in REQUIRED:
+        for plan in (["--workers", "65"], ["--sweeps", "0"], ["--workers=0", "--sweeps=1"]):
+            yield [task, *required_words(task), *plan]
+    for name, (low, high) in {"workers": (1, 64), "sweeps": (1, 1000)}.items():
+        for value in (low - 1, high + 1, -1, "", "x", "1.0", "0" * 21, "9" * 20, "9" * 300):
+            yield [*CLEAR, f"--{name}={value}"]
+    for name, high in (("seed", 2**64 - 1), ("size", 1000), ("tries", 20_000)):
+        values = {"seed": 1, "size": 1, "tries": 1}
+        for value in (high + 1, -1, "", "x", "1.0", "0" * 21, "9" * 20, *([0] if name == "size" else [])):
+            yield ["gen", *(f"--{key}={value if key == name else kept}" for key, kept in values.items())]
+    for task in ("costs", "cost-bounds"):
+        yield from ([task, *BANKS, *DEBTS, f"--keep={value}"] for value in (1001, -1, "", "x", "9" * 20))
+
+
+# The tasks that read the banks and the debts alone, and want nothing else.
+TASKS_OF_TWO_FILES = [
+    "check",
+    "clear",
+    "central",
+    "defaults",
+    "convert",
+    "bounds",
+    "compress",
+    "breaking",
+    "impact",
+    "rescues",
+]
+NOT_LAWFUL = (7, "clearing: the journal is not a lawful complete history\n")
+
+
+def verdicts_behind(count: int, name: str) -> Iterator[Tuple[List[str], str]]:
+    """The last records of a journal that is not lawful, behind so many raises of a bank's debt, and its verdict."""
+    for to in (0, count, 900_001, 1_000_000):
+        yield [f"{count},{name},B,9,{to}"], f"unlawful,{count + 1},{count},900000\n"
+    yield [], f"unfinished,{name}\n"
+    if count:
+        yield [f"{count - 1},{name},B,9,900000"], f"falls,{count + 1},{count},{count - 1}\n"
+        late = [f"4294967295,{name},B,9,{count + 1}", f"0,{name},B,9,900000"]
+        yield late, f"falls,{count + 2},4294967295,0\n"
+
+
+def lawful_behind(count: int, name: str) -> Tuple[List[str], str]:
+    """The last records that make such a journal lawful, and what is printed of it."""
+    paid = f"debtor,creditor,class,claim,paid\n{name},B,9,1000000,900000\n"
+    return [f"{count},{name},B,9,900000", f"rounds,{count}"], f"lawful,{count + 1}\n\n{paid}"
 
 
 class Refusals(Case):
@@ -472,154 +648,46 @@ class Refusals(Case):
                             words, *(4, "clearing: words row 0: unknown bank (8)\n") if name in unknown else USAGE
                         )
 
-    def test_words(self):
-        banks, debts = ["--banks", "b"], ["--debts", "d"]
-        requires = {
-            "check": [banks, debts],
-            "clear": [banks, debts],
-            "central": [banks, debts],
-            "defaults": [banks, debts],
-            "convert": [banks, debts],
-            "stress": [banks, debts, ["--scenarios", "s"]],
-            "replay": [banks, debts, ["--journal", "j"]],
-            "bounds": [banks, debts],
-            "gen": [["--seed", "1"], ["--size", "1"], ["--tries", "1"]],
-            "rescue": [banks, debts, ["--bank", "A"]],
-            "compress": [banks, debts],
-            "costs": [banks, debts, ["--keep", "1"]],
-            "cost-bounds": [banks, debts, ["--keep", "1"]],
-            "breaking": [banks, debts],
-            "impact": [banks, debts],
-            "rescues": [banks, debts],
-            "outcomes": [banks, debts, ["--scenarios", "s"]],
-        }
-        self.assertEqual(
-            sorted(requires), sorted(re.findall(r"^\| `([a-z-]+)` \| [^|]*\| `--[^|]*\| [^|]*\|$", FORMATS, re.M))
-        )
-        workers = ["clear", "defaults", "stress", "gen", "bounds", "rescue"]
-        one_more = [
-            ["--scenarios", "s"],
-            ["--journal", "j"],
-            ["--bank", "A"],
-            ["--seed", "1"],
-            ["--size", "1"],
-            ["--tries", "1"],
-            ["--keep", "1"],
-            ["--show", "both"],
-            ["--workers", "1"],
-            ["--sweeps", "1"],
-            banks,
-            debts,
-        ]
-        lists = [
-            [],
-            [""],
-            ["x"],
-            ["Clear"],
-            ["clears"],
-            ["x" * 300],
-            ["é" * 100],
-            ["--"],
-            ["-"],
-            ["--help"],
-            ["-h"],
-            ["--version"],
-            ["help"],
-            ["--banks"],
-            ["--x"],
-            ["--", "--banks"],
-            ["--workers", "1"],
-            ["-x", *sum([banks, debts], [])],
-        ]
-        for task, options in requires.items():
-            words = sum(options, [])
-            lists += [
-                [task],
-                [task, task, *words],
-                [*words],
-                [task, *words, "--", "x"],
-                ["--", task, *words],
-                [task, *words, "--help"],
-            ]
-            lists.append(["x", *words])
-            lists += [[task, *sum(options[:i] + options[i + 1 :], [])] for i in range(len(options))]
-            lists += [[task, *words, *option] for option in options]
-            lists += [
-                [task, *words, *option]
-                for option in one_more
-                if option not in options
-                and not (
-                    option[0] in ("--workers", "--sweeps")
-                    and task in workers
-                    or option[0] == "--show"
-                    and task == "clear"
-                )
-            ]
-            lists += [
-                [task, *words, "--x"],
-                [task, *words, "--x=1"],
-                [task, *words, "-x"],
-                [task, *words, "x"],
-                [task, *words, "--workers"],
-            ]
-            # Long lists of words.
-            lists += [[task, *words, *["x"] * n] for n in (1, 2, 3, 8, 30, 500)] + [
-                [task, *words, *["--banks", "b"] * n] for n in (2, 6, 100)
-            ]
-            lists += [
-                [task, *words, "--workers", "65"],
-                [task, *words, "--sweeps", "0"],
-                [task, *words, "--workers=0", "--sweeps=1"],
-            ]
-        limits = {"workers": (1, 64), "sweeps": (1, 1000)}
-        for name, (low, high) in limits.items():
-            for value in (low - 1, high + 1, -1, "", "x", "1.0", "0" * 21, "9" * 20, "9" * 300):
-                lists.append(["clear", *banks, *debts, f"--{name}={value}"])
-        for name, high in (("seed", 2**64 - 1), ("size", 1000), ("tries", 20_000)):
-            values = {"seed": 1, "size": 1, "tries": 1}
-            for value in (high + 1, -1, "", "x", "1.0", "0" * 21, "9" * 20, *([0] if name == "size" else [])):
-                lists.append(["gen", *(f"--{key}={value if key == name else kept}" for key, kept in values.items())])
-        lists += [
-            [task, *banks, *debts, f"--keep={value}"]
-            for task in ("costs", "cost-bounds")
-            for value in (1001, -1, "", "x", "9" * 20)
-        ]
-        lists += [["clear", *banks, *debts, f"--show={value}"] for value in ("", "x", "Both", "x" * 300)]
-        lists += [["clear", "--banks", name, *debts] for name in ("", "-b", "-")] + [
-            ["rescue", *banks, *debts, "--bank", name] for name in ("", "-A")
-        ]
-        # A value that is no value, options with one dash, another name for a task, a task that takes no such option.
-        lists += [
-            ["clear", *banks, *debts, ""],
-            ["clear", "--banks", *debts],
-            ["clear", "--banks", "--", "b", *debts],
-            ["clear", "-banks", "b", *debts],
-            ["clear", *banks, "--debts="],
-            ["clear", *banks, "--debts", "-"],
-            ["clear", *banks, *debts, "--workers", " 1"],
-            ["-V"],
-            ["clear", "--banks=a", "--debts=d", "--banks=b"],
-            ["clear", *banks, *debts, "--threads=2"],
-            ["cost_bounds", *banks, *debts, "--keep=5"],
-            ["rescue", *banks, *debts, "--bank=a,b"],
-            ["gen", "--seed=1", "--size=0", "--tries=0"],
-        ]
-        # Words that are no text.
-        lists += [
-            [b"\xff"],
-            ["clear", *banks, "--debts", b"\xff"],
-            ["clear", *banks, *debts, b"\xc3"],
-            [b"x" * 100 + b"\xff", *["x"] * 20],
-        ]
+    def usage(self, lists: Iterable[Words]) -> None:
+        """Each of these lists of words is a faulty command line."""
         for words in lists:
             with self.subTest(words=[word[:60] for word in words][:16]):
                 self.ends(words, *USAGE)
 
-    def test_files_that_cannot_be_read(self):
+    def test_the_required_options_are_those_of_the_document(self) -> None:
+        tasks = re.findall(r"^\| `([a-z-]+)` \| [^|]*\| `--[^|]*\| [^|]*\|$", FORMATS, re.M)
+        self.assertEqual(sorted(REQUIRED), sorted(tasks))
+
+    def test_words_without_a_task_are_a_faulty_command_line(self) -> None:
+        self.usage(NO_TASK)
+
+    def test_a_task_stands_once_and_before_its_options(self) -> None:
+        self.usage(words for task in REQUIRED for words in words_about(task))
+
+    def test_a_task_has_each_of_its_options_once_and_no_other(self) -> None:
+        self.usage(words for task in REQUIRED for words in options_out_of_place(task))
+
+    def test_long_lists_of_words_are_a_faulty_command_line(self) -> None:
+        for task in REQUIRED:
+            words = [task, *required_words(task)]
+            self.usage([*words, *["x"] * count] for count in (1, 2, 3, 8, 30, 500))
+            self.usage([*words, *BANKS * count] for count in (2, 6, 100))
+
+    def test_values_beyond_their_limits_are_a_faulty_command_line(self) -> None:
+        self.usage(values_beyond())
+
+    def test_options_out_of_form_are_a_faulty_command_line(self) -> None:
+        self.usage(OPTIONS_OUT_OF_FORM)
+
+    def test_words_that_are_no_text_are_a_faulty_command_line(self) -> None:
+        self.usage(NO_TEXT)
+
+    def missing(self) -> List[Union[pathlib.Path, str]]:
+        """Paths at which no file can be read: nothing, a folder, a link to itself, and names too long."""
         folder = self.file("folder")
         folder.mkdir()
         self.file("loop").symlink_to(self.file("loop"))
-        missing = [
+        return [
             self.file("missing"),
             folder / "missing",
             self.file("m" * 21),
@@ -633,42 +701,39 @@ class Refusals(Case):
             "nowhere/" + "é" * 100,
             "/dev/null/x",
         ]
+
+    def test_each_file_that_cannot_be_read_is_named(self) -> None:
+        missing = self.missing()
         for file in ("banks", "debts", "scenarios", "journal"):
             for path in missing:
                 with self.subTest(file=file, path=str(path)[:100]):
                     self.ends(self.words(file, path), 3, f"clearing: cannot read {path}\n")
-        for task in (
-            "check",
-            "clear",
-            "central",
-            "defaults",
-            "convert",
-            "bounds",
-            "compress",
-            "breaking",
-            "impact",
-            "rescues",
-        ):
-            for path in (missing[0], folder):
+
+    def test_each_task_of_two_files_names_the_one_that_cannot_be_read(self) -> None:
+        missing = self.missing()
+        for task in TASKS_OF_TWO_FILES:
+            for path in (missing[0], self.file("folder")):
                 with self.subTest(task=task, path=path):
                     self.ends(
                         [task, "--banks", self.names["banks"], "--debts", path], 3, f"clearing: cannot read {path}\n"
                     )
-        # Each file is read and its size looked at before the next one is, and the contents come after.
-        long, faulty, gone = self.file("long", b"x" * (LARGEST + 1)), self.file("faulty", "x\n"), missing[0]
-        replay = lambda *names: [
-            "replay",
-            *(word for pair in zip(("--banks", "--debts", "--journal"), names) for word in pair),
-        ]
-        good = self.names["banks"], self.names["debts"]
-        self.ends(replay(gone, missing[1], missing[2]), 3, f"clearing: cannot read {gone}\n")
-        self.ends(replay(faulty, gone, missing[1]), 3, f"clearing: cannot read {gone}\n")
-        self.ends(replay(faulty, faulty, gone), 3, f"clearing: cannot read {gone}\n")
-        self.ends(replay(long, gone, gone), 4, "clearing: banks row 0: file size (14)\n")
-        self.ends(replay(faulty, long, gone), 4, "clearing: debts row 0: file size (14)\n")
-        self.ends(replay(faulty, faulty, faulty), 4, "clearing: banks row 0: header (1)\n")
-        self.ends(replay(good[0], faulty, faulty), 4, "clearing: debts row 0: header (1)\n")
-        self.ends(replay(*good, faulty), 4, "clearing: journal row 0: header (1)\n")
+
+    def test_each_file_is_read_and_measured_before_the_next_and_the_contents_come_after(self) -> None:
+        long, faulty = self.file("long", b"x" * (LARGEST + 1)), self.file("faulty", "x\n")
+        gone, other, third = self.missing()[:3]
+        banks, debts = self.names["banks"], self.names["debts"]
+        for names, status, message in [
+            ((gone, other, third), 3, f"cannot read {gone}"),
+            ((faulty, gone, other), 3, f"cannot read {gone}"),
+            ((faulty, faulty, gone), 3, f"cannot read {gone}"),
+            ((long, gone, gone), 4, "banks row 0: file size (14)"),
+            ((faulty, long, gone), 4, "debts row 0: file size (14)"),
+            ((faulty, faulty, faulty), 4, "banks row 0: header (1)"),
+            ((banks, faulty, faulty), 4, "debts row 0: header (1)"),
+            ((banks, debts, faulty), 4, "journal row 0: header (1)"),
+        ]:
+            words = [word for pair in zip(("--banks", "--debts", "--journal"), names) for word in pair]
+            self.ends(["replay", *words], status, f"clearing: {message}\n")
 
     def test_output_that_cannot_be_written(self):
         for words in (self.words("banks", self.names["banks"]), ["gen", "--seed", 1, "--size", 9, "--tries", 9]):
@@ -682,48 +747,19 @@ class Refusals(Case):
         self.verdicts((0, 1, 3, 4, 5, 9, 10, 11, 100, 5_001, 70_000), 0)
         self.verdicts((0, 1, 5, 100), 18)
 
-    def verdicts(self, counts, others):
+    def verdicts(self, counts: Iterable[int], others: int) -> None:
         """Each verdict behind so many raises, on two banks and others without debts."""
-        names = ["n" * 64, "B"]
+        name = "n" * 64
         more = "".join(f"G{i},{i},adams\n" for i in range(others))
-        files = [
-            "--banks",
-            self.file("two.csv", f"name,cash,rule\n{names[0]},900000,order\nB,0,order\n{more}"),
-            "--debts",
-            self.file("one.csv", f"debtor,creditor,class,claim\n{names[0]},B,9,1000000\n"),
-        ]
-        message = "clearing: the journal is not a lawful complete history\n"
+        banks = self.file("two.csv", f"name,cash,rule\n{name},900000,order\nB,0,order\n{more}")
+        debts = self.file("one.csv", f"debtor,creditor,class,claim\n{name},B,9,1000000\n")
         for count in counts:
-            lawful = [f"{i},{names[0]},B,9,{i}" for i in range(1, count + 1)]
-            cases = [
-                ([f"{count},{names[0]},B,9,{to}"], f"unlawful,{count + 1},{count},900000\n")
-                for to in (0, count, 900_001, 1_000_000)
-            ]
-            cases.append(([], f"unfinished,{names[0]}\n"))
-            if count:
-                cases.append(([f"{count - 1},{names[0]},B,9,900000"], f"falls,{count + 1},{count},{count - 1}\n"))
-                cases.append(
-                    (
-                        [f"4294967295,{names[0]},B,9,{count + 1}", f"0,{names[0]},B,9,900000"],
-                        f"falls,{count + 2},4294967295,0\n",
-                    )
-                )
-            for more, verdict in cases:
+            lawful = [f"{i},{name},B,9,{i}" for i in range(1, count + 1)]
+            for further, verdict in [*verdicts_behind(count, name), lawful_behind(count, name)]:
                 with self.subTest(count=count, verdict=verdict, others=others):
-                    path = self.file("tried.csv", "\n".join([HEADERS["journal"], *lawful, *more]) + "\n")
-                    self.ends(["replay", *files, "--journal", path], 7, message, verdict)
-            with self.subTest(count=count, verdict="lawful", others=others):
-                path = self.file(
-                    "tried.csv",
-                    "\n".join([HEADERS["journal"], *lawful, f"{count},{names[0]},B,9,900000", f"rounds,{count}"])
-                    + "\n",
-                )
-                self.ends(
-                    ["replay", *files, "--journal", path],
-                    0,
-                    "",
-                    f"lawful,{count + 1}\n\ndebtor,creditor,class,claim,paid\n{names[0]},B,9,1000000,900000\n",
-                )
+                    path = self.file("tried.csv", "\n".join([HEADERS["journal"], *lawful, *further]) + "\n")
+                    words = ["replay", "--banks", banks, "--debts", debts, "--journal", path]
+                    self.ends(words, *((0, "") if verdict.startswith("lawful") else NOT_LAWFUL), verdict)
 
     def test_each_kind_is_tried(self):
         tried = {

@@ -145,6 +145,79 @@ class MadeLines:
             parts.append(list(parts[at]))
 
 
+# A command line, and what is told of it.
+FAULTS = [
+    (
+        "clearing stress --banks b --debts d --scenario s",
+        [
+            "word 7 '--scenario': there is no option --scenario; is it --scenarios?",
+            "stress requires --scenarios",
+            "2 faults",
+        ],
+    ),
+    (
+        "./clearing clera --banks b --debts d",
+        ["word 2 'clera': there is no task 'clera'; is it clear?", "1 fault"],
+    ),
+    (
+        "clear --banks b --debts d --show all",
+        ["word 7 'all': 'all' is no value of --show: it is one of payments, journal, both", "1 fault"],
+    ),
+    (
+        "clear --banks b --debts d --keep=5",
+        ["word 6 '--keep=5': clear has no option --keep; it is of costs, cost-bounds", "1 fault"],
+    ),
+    (
+        "gen --seed 1 --size 1,000 --tries -5",
+        [
+            (
+                "word 5 '1,000': '1,000' is no value of --size: a number is 1 to 20 digits 0 to 9, and nothing"
+                " else"
+            ),
+            "word 6 '--tries': --tries has no value; a value does not begin with a dash",
+            "word 7 '-5': there are no options of one dash",
+            "3 faults",
+        ],
+    ),
+    (
+        "rescue --banks b --debts d --bank Bank Two",
+        [
+            (
+                "word 8 'Two': the task is 'rescue' already, and it is the only word that is no option; a value"
+                " with a blank in it stands between quotes"
+            ),
+            "1 fault",
+        ],
+    ),
+    (
+        "check --banks a --banks b --debts d",
+        ["word 4 '--banks': --banks stands in word 2 already; an option is given once", "1 fault"],
+    ),
+    (
+        "--help --banks b",
+        [
+            "word 1 '--help': there is no option --help; docs/FORMATS.md and the manual page say what there is",
+            "there is no task; the tasks are " + ", ".join(why.TASKS),
+            "2 faults",
+        ],
+    ),
+    ("clear --debts d --banks b", ["understood: the task clear"]),
+    ("check --debts d --banks b --limits wide", ["understood: the task check"]),
+    (
+        "check --banks b --debts d --limits big",
+        ["word 7 'big': 'big' is no value of --limits: it is one of standard, wide", "1 fault"],
+    ),
+    (
+        "gen --seed 1 --size 3 --tries 4 --limits wide",
+        [
+            "word 8 '--limits': gen has no option --limits; it is of "
+            + ", ".join(task for task in why.TASKS if task != "gen"),
+            "1 fault",
+        ],
+    ),
+]
+
+
 class Why(Case):
     def is_understood(self, words):
         """Whether the program understands some words: it ends with 2 where it does not."""
@@ -208,84 +281,19 @@ class Why(Case):
             allowed += re.findall(r"(\w+): Use::Allowed", body) + (["limits"] if "both_files" in body else [])
             self.assertEqual((required, allowed), why.TASKS[word][1:], word)
 
-    def test_faults_have_their_word_and_a_hint(self):
-        for line, lines in [
-            (
-                "clearing stress --banks b --debts d --scenario s",
-                [
-                    "word 7 '--scenario': there is no option --scenario; is it --scenarios?",
-                    "stress requires --scenarios",
-                    "2 faults",
-                ],
-            ),
-            (
-                "./clearing clera --banks b --debts d",
-                ["word 2 'clera': there is no task 'clera'; is it clear?", "1 fault"],
-            ),
-            (
-                "clear --banks b --debts d --show all",
-                ["word 7 'all': 'all' is no value of --show: it is one of payments, journal, both", "1 fault"],
-            ),
-            (
-                "clear --banks b --debts d --keep=5",
-                ["word 6 '--keep=5': clear has no option --keep; it is of costs, cost-bounds", "1 fault"],
-            ),
-            (
-                "gen --seed 1 --size 1,000 --tries -5",
-                [
-                    (
-                        "word 5 '1,000': '1,000' is no value of --size: a number is 1 to 20 digits 0 to 9, and nothing"
-                        " else"
-                    ),
-                    "word 6 '--tries': --tries has no value; a value does not begin with a dash",
-                    "word 7 '-5': there are no options of one dash",
-                    "3 faults",
-                ],
-            ),
-            (
-                "rescue --banks b --debts d --bank Bank Two",
-                [
-                    (
-                        "word 8 'Two': the task is 'rescue' already, and it is the only word that is no option; a value"
-                        " with a blank in it stands between quotes"
-                    ),
-                    "1 fault",
-                ],
-            ),
-            (
-                "check --banks a --banks b --debts d",
-                ["word 4 '--banks': --banks stands in word 2 already; an option is given once", "1 fault"],
-            ),
-            (
-                "--help --banks b",
-                [
-                    "word 1 '--help': there is no option --help; docs/FORMATS.md and the manual page say what there is",
-                    "there is no task; the tasks are " + ", ".join(why.TASKS),
-                    "2 faults",
-                ],
-            ),
-            ("clear --debts d --banks b", ["understood: the task clear"]),
-            ("check --debts d --banks b --limits wide", ["understood: the task check"]),
-            (
-                "check --banks b --debts d --limits big",
-                ["word 7 'big': 'big' is no value of --limits: it is one of standard, wide", "1 fault"],
-            ),
-            (
-                "gen --seed 1 --size 3 --tries 4 --limits wide",
-                [
-                    "word 8 '--limits': gen has no option --limits; it is of "
-                    + ", ".join(task for task in why.TASKS if task != "gen"),
-                    "1 fault",
-                ],
-            ),
-        ]:
+    def test_faults_have_their_word_and_a_hint(self) -> None:
+        for line, lines in FAULTS:
             done = tool("clearing-why", *line.split(" "))
             self.assertEqual((done.stdout.splitlines(), done.stderr), (lines, ""))
             self.assertEqual(done.returncode, 0 if lines[-1].startswith("understood") else 1)
+
+    def test_words_that_are_not_utf_8_are_told(self) -> None:
         self.assertEqual(why.faults_of(["clear", "\udcff"])[0], (2, "it is not UTF-8"))
         self.assertEqual(
             why.faults_of(["check", "--banks", "a\udc80", "--debts", "d"]), [(3, "the value of --banks is not UTF-8")]
         )
+
+    def test_without_words_it_refuses_and_for_help_it_says_what_it_does(self) -> None:
         self.assertEqual(tool("clearing-why").returncode, 2)
         self.assertTrue(
             tool("clearing-why", "--help").stdout.startswith("usage: clearing-why WORDS..\n\nSays which word")
