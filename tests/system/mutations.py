@@ -27,10 +27,10 @@ sys.path.insert(0, str(ROOT / "python/src"))
 from clearing_client import Network, errors, request, texts  # noqa: E402
 from clearing_client.results import Stress  # noqa: E402
 from clearing_tools import runner, texts as tool_texts  # noqa: E402
-from clearing_tools.evidence import audit, checking, making, parts, shock, source  # noqa: E402
+from clearing_tools.evidence import audit, checking, layout, making, plain_files, shock, source  # noqa: E402
 
 TWELVE, HUB = ROOT / "examples/twelve-banks", ROOT / "examples/hub"
-REFUSALS = (errors.ClearingError, runner.ToolError, audit.RefusedError, shock.ScenarioError, parts.NoRoomError)
+REFUSALS = (errors.ClearingError, runner.ToolError, audit.RefusedError, shock.ScenarioError, plain_files.NoRoomError)
 
 # What is put in the place of a field, or into a text.
 FIELDS = [
@@ -638,7 +638,7 @@ class Folders(Reader):
         (folder / name).write_bytes(data)
         files = {each: data if each == name else content for each, content in self.whole.items()}
         (folder / "SHA256SUMS").write_bytes(
-            parts.sums_text({each: hashlib.sha256(content).hexdigest() for each, content in files.items()})
+            layout.sums_text({each: hashlib.sha256(content).hexdigest() for each, content in files.items()})
         )
         out = io.TextIOWrapper(io.BytesIO())
         try:

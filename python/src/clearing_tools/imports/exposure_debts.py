@@ -2,7 +2,7 @@
 from typing import Dict, Iterable, List, Tuple
 
 from .exposure_lines import Exposure, LineReader
-from .exposure_sheets import ExposureSheets
+from .exposure_sheets import OnExposureSheets
 from .left_out import ask_currencies, currencies_in
 from .tables import quoted
 from .units import Debt
@@ -11,12 +11,8 @@ DebtKey = Tuple[str, str, int]
 """A debtor, a creditor and a class: there is one debt of each."""
 
 
-class ExposureDebts:
+class ExposureDebts(OnExposureSheets):
     """Makes the debts of a list, and refuses lines that nothing says are to be summed."""
-
-    def __init__(self, sheets: ExposureSheets) -> None:
-        self.sheets, self.args, self.faults, self.summary = sheets, sheets.args, sheets.faults, sheets.summary
-        self.list, self.table = sheets.list, sheets.table
 
     def debts(self) -> List[Debt]:
         """The debts of the lines: one for each debtor, creditor and class."""

@@ -3,7 +3,7 @@ from typing import Container, Dict, List, NamedTuple, Set
 
 from .amounts import Amount
 from .control import TotalLines, sum_fault
-from .exposure_sheets import ExposureSheets
+from .exposure_sheets import OnExposureSheets
 from .left_out import Gone, beside_of, no_line_to_drop, no_line_to_leave_out, no_total, tell_columns
 from .summary import Counted
 from .tables import quoted
@@ -31,12 +31,8 @@ def is_called(name: str) -> bool:
     return not name or is_called_total(name)
 
 
-class ExposureDropping:
+class ExposureDropping(OnExposureSheets):
     """Takes out of a list and its table what the words say, and tells it."""
-
-    def __init__(self, sheets: ExposureSheets) -> None:
-        self.sheets, self.args, self.faults, self.summary = sheets, sheets.args, sheets.faults, sheets.summary
-        self.list, self.table = sheets.list, sheets.table
 
     def take_where(self) -> None:
         """Leaves out the lines that have none of the values that are wanted."""

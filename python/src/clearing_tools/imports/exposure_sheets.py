@@ -148,3 +148,11 @@ def pair_in(faults: Faults, table: Listing, option: str, word: str) -> Pair:
     column, value = pair_of(word, [table])
     need_column(faults, table, option, column)
     return column, value
+
+
+class OnExposureSheets:
+    """What works on the sheets of a list of exposures, with all that was said of them."""
+
+    def __init__(self, sheets: ExposureSheets) -> None:
+        self.sheets, self.args, self.faults, self.summary = sheets, sheets.args, sheets.faults, sheets.summary
+        self.list, self.table = sheets.list, sheets.table
