@@ -19,7 +19,9 @@ is_date <- function(value) {
 is_unit <- function(value) is_text(value, "^[0-9]{1,40}([.][0-9]{1,40})?$") && grepl("[1-9]", value)
 
 # Whether a value is a whole number of thousandths.
-is_keep <- function(value) is.numeric(value) && value >= 0 && value <= 1000 && value == floor(value)
+is_keep <- function(value) {
+  is.numeric(value) && length(value) == 1 && isTRUE(value >= 0 && value <= 1000 && value == floor(value))
+}
 
 # What stands under our key is of its form; fails with the key.
 check_described <- function(ours) {

@@ -18,7 +18,7 @@ find_program <- function() {
     found <- unname(Sys.which("clearing"))
   }
   if (!nzchar(found) || !file.exists(found) || dir.exists(found)) {
-    stop("there is no program `clearing`: install it, or let the environment variable CLEARING name it", call. = FALSE)
+    fail("there is no program `clearing`: install it, or let the environment variable CLEARING name it")
   }
   normalizePath(found)
 }

@@ -60,3 +60,9 @@ test("a description that is none is refused", {
 test("a unit that is no exact decimal above 0 is refused", {
   for (unit in list("0", "1e3", "-1", 0.01, "")) expect_fault(bank_case(two_banks(), unit = unit), "clearing.unit")
 })
+
+test("what default keeps is one whole number of thousandths", {
+  for (keep in list(c(1, 2), 1001, -1, 0.5, "500", NA_real_)) {
+    expect_fault(write_case(bank_case(two_banks(), keep = keep), folder_of()), "clearing.keep")
+  }
+})

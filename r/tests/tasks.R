@@ -102,3 +102,13 @@ test_with_program("a fault of the program is an error with its message and statu
 })
 
 test("a task without a network is refused", expect_fault(check(1), "neither a network nor a case"))
+
+test("a program that is not there is a fault of the package", {
+  find_nowhere <- function() {
+    named <- Sys.getenv("CLEARING", NA)
+    on.exit(if (is.na(named)) Sys.unsetenv("CLEARING") else Sys.setenv(CLEARING = named))
+    Sys.setenv(CLEARING = "/nowhere/clearing")
+    find_program()
+  }
+  expect_fault(find_nowhere(), "there is no program")
+})

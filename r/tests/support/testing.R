@@ -26,7 +26,7 @@ expect_same <- function(found, wanted) {
        call. = FALSE)
 }
 
-# Fails where an expression is no fault of the package, or one without some words in its message; gives the fault.
+# Fails where an expression is no fault of the package, or one without some words in its message or of another status.
 expect_fault <- function(expression, words = "", status = NA_integer_) {
   what <- paste(deparse(substitute(expression)), collapse = " ")
   fault <- tryCatch({

@@ -132,7 +132,7 @@ export class Context {
   }
 
   /**
-   * The name under which a state is kept; nothing of one that is not.
+   * The kept state that a state is, with its name; nothing of one that is not kept.
    * @param {{id: number}} view
    */
   keptAs(view) {

@@ -1,7 +1,7 @@
 """How workbooks are read: .xlsx by openpyxl and .ods by odfpy, values and not formulas, within limits of size, cells
 and depth.
 
-Each part is gone through before a library sees it (`book_scan`): what the library would pass over is refused, and so is
+Each part is gone through before a library sees it (`scan`): what the library would pass over is refused, and so is
 what unpacks to more than it may, nests deeper, or declares entities. Where the library gives fewer cells than were
 counted, that is refused too. Nothing is fetched, and no link to another file is followed. Whatever is wrong with a file
 is one `SheetError`."""

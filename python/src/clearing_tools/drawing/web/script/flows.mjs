@@ -1,9 +1,14 @@
 // The debts of the picture while a journal is played: how wide each is, and where its arrow begins, by what stays
-// unpaid of it. The picture is that of the package for Python, whose module `ring` has the same sizes.
+// unpaid of it. The picture is that of the package for Python, whose module `curves` has the same sizes.
 import { setAll } from "./elements.mjs";
 
 const PAID = 1; // the width of a debt that is paid in full, in pixels
 const CASE = 3; // by how much wider the ground about a debt is
+// The length of an arrow's head: the least in pixels, by the width of the debt, and what is added.
+const LEAST_HEAD = 6;
+const HEAD = 0.95;
+const HEAD_MORE = 5;
+const BREADTH = 2.1; // by how much wider than half of the debt half of the head is
 const SQUARE = 32; // the side of the largest square of a matrix
 const LEAST_SQUARE = 3; // the side of the least one
 
@@ -38,11 +43,11 @@ const text = (...numbers) => numbers.map((number) => number.toFixed(1)).join(" "
  */
 const pathsOf = ([startX, startY, bendX, bendY, endX, endY], width) => {
   const angle = Math.atan2(bendY - endY, bendX - endX);
-  const head = Math.max(6, 0.95 * width + 5);
+  const head = Math.max(LEAST_HEAD, HEAD * width + HEAD_MORE);
   const neckX = endX + head * Math.cos(angle);
   const neckY = endY + head * Math.sin(angle);
-  const across = (width / 2 + 2.1) * -Math.sin(angle);
-  const down = (width / 2 + 2.1) * Math.cos(angle);
+  const across = (width / 2 + BREADTH) * -Math.sin(angle);
+  const down = (width / 2 + BREADTH) * Math.cos(angle);
   return [
     `M${text(startX, startY)}Q${text(bendX, bendY, neckX, neckY)}`,
     `M${text(endX, endY)}L${text(neckX + across, neckY + down)}L${text(neckX - across, neckY - down)}z`,
