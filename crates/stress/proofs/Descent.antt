@@ -1,7 +1,8 @@
 -- Going down from cut to cut: what is known of each bank, and which banks are to pay anew.
-use Rattle.std.proofs.Common.{◌≡◌, ◌↔◌, ℕ, ◌+◌, ◌<◌, ◌≤◌, ◌==◌, ◌&&◌, not, cond, Bool, false, true, List, [], ◌∷◌, length, get_or, map, max, min, nat_lt, nat_le, sum_by, replicate, Result, Vec, Global, refl, sym, ap, ◌∙◌, subst, ⊎_elim, arith, eq-eqb}
+use Rattle.std.proofs.Common.{◌≡◌, ◌↔◌, ℕ, ◌+◌, ◌<◌, ◌≤◌, ◌==◌, ◌&&◌, not, cond, Bool, false, true, List, [], ◌∷◌, length, get_or, map, max, min, nat_lt, nat_le, sum_by, replicate, Result, Vec, Global, refl, sym, ap, ◌∙◌, subst, ⊎_elim, arith}
 use Rattle.std.specs.Result.{IfOk}
-use Rattle.std.proofs.lemmas.Bool.{and_from, and_right, cases_Bool, cases_lt, eqb-false, eqb-true, le-leb, le-ltb, lt-leb, lt-ltb}
+use Rattle.std.proofs.lemmas.Bool.Decides.{nat_tests}
+use Rattle.std.proofs.lemmas.Bool.{cases_lt, eqb-false, eqb-true, lt-ltb}
 use Rattle.std.proofs.lemmas.Result.{IfOk-weaker}
 use Rattle.std.proofs.lemmas.List.{get_or-map, get_or-replicate, length-map, length-replicate}
 use Rattle.std.proofs.lemmas.List.FromFn.{fill_by_all, get_or-map-range_with_len, length-map-range_with_len}
@@ -108,63 +109,21 @@ told_by_shares : (h : ℕ → Health) (b low middle high : ℕ) → low ≤ midd
 told_by_shares h b low middle high l m =
     told_by_test h b low middle high l m ((told h b low middle).cut == middle) refl
 
--- one cut more, after which the bank is sound, tells what is known
-told_more_sound : (h : ℕ → Health) (b high c : ℕ) → c < high → c < b → h c ≡ Sound
-    → cond (((told h b (c + 1) high).cut == c + 1) && not (is_sound (h c)))
-    (record { cut = c; health = h c }) (told h b (c + 1) high)
-    ≡ told h b c high
-told_more_sound h b high c l below sound =
-    let cut = max (c + 1) (min high b) in
-    let known = told h b (c + 1) high in
-    ap (λ (g : Health). cond ((cut == c + 1) && not (is_sound g)) (record { cut = c; health = h c }) known) sound
-    ∙ ap (λ (t : Bool). cond t (record { cut = c; health = h c }) known)
-    (and_right (cut == c + 1) false refl)
-    ∙ sym (told_at h b c high cut (omega (arith, l, below)))
-
--- and one after which it is not tells of this cut
-told_more_broken : (h : ℕ → Health) (b high c : ℕ) → c < high → b ≤ c → is_sound (h c) ≡ false
-    → cond (((told h b (c + 1) high).cut == c + 1) && not (is_sound (h c)))
-    (record { cut = c; health = h c }) (told h b (c + 1) high)
-    ≡ told h b c high
-told_more_broken h b high c l broken unsound =
-    let cut = max (c + 1) (min high b) in
-    let known = told h b (c + 1) high in
-    ap (λ (t : Bool). cond t (record { cut = c; health = h c }) known)
-    (and_from (cut == c + 1) (not (is_sound (h c))) (eq-eqb cut (c + 1) (omega (arith, l, broken))) (ap not unsound))
-    ∙ sym (told_below h b c high c (omega (arith, l, broken)) l)
-
--- so one cut more tells what all cuts from it on tell
+-- one cut more tells what all cuts from it on tell
 told_more : (h : ℕ → Health) (b high c : ℕ) → c < high → (h c ≡ Sound) ↔ (c < b)
     → cond (((told h b (c + 1) high).cut == c + 1) && not (is_sound (h c)))
     (record { cut = c; health = h c }) (told h b (c + 1) high)
     ≡ told h b c high
-told_more h b high c l below = ⊎_elim
-    (λ (f : c < b). told_more_sound h b high c l f (below.1 f))
-    (λ (g : b ≤ c). told_more_broken h b high c l g (⊎_elim
-    (λ (t : is_sound (h c) ≡ true). absurd (omega (arith, g, below.0 (sound_told (h c) t))))
-    (λ (f : is_sound (h c) ≡ false). f)
-    (cases_Bool (is_sound (h c)))))
-    (cases_lt c b)
+told_more h b high c l below = grind (arith, nat_tests, sound_told (h c))
 
 -- no cut tells nothing
 told_by_none : (h : ℕ → Health) (b high : ℕ) → record { cut = high; health = Sound } ≡ told h b high high
-told_by_none h b high =
-    ap (λ (t : Bool). record { cut = high; health = cond t (h high) Sound }) (sym (le-ltb high high (omega arith)))
-    ∙ sym (told_at h b high high high (omega arith))
-
--- below the next number is up to this one
-below_next : (b n : ℕ) → nat_lt b (n + 1) ≡ nat_le b n
-below_next b n = ⊎_elim
-    (λ (l : b < n + 1). lt-ltb b (n + 1) l ∙ sym (le-leb b n (omega arith)))
-    (λ (g : n + 1 ≤ b). le-ltb b (n + 1) g ∙ sym (lt-leb b n (omega arith)))
-    (cases_lt b (n + 1))
+told_by_none h b high = grind (arith, nat_tests)
 
 -- the cuts below the one after the greatest are those up to the greatest
 told_by_all_cuts : (h : ℕ → Health) (b : ℕ) → b ≤ MAX_CUT + 1 → told h b 0 (MAX_CUT + 1)
     ≡ record { cut = b; health = cond (nat_le b MAX_CUT) (h b) Sound }
-told_by_all_cuts h b l =
-    told_at h b 0 (MAX_CUT + 1) b (omega (arith, l))
-    ∙ ap (λ (t : Bool). record { cut = b; health = cond t (h b) Sound }) (below_next b MAX_CUT)
+told_by_all_cuts h b l = grind (arith, nat_tests)
 
 module _ (net : Net) (network : IsNetwork net) (high c : ℕ) (in_range : c < high)
     (in_limit : high ≤ MAX_CUT + 1) where

@@ -7,7 +7,7 @@ use Rattle.compress.specs.Walk.{ArePassed, IsReady, IsStep, IsStepFrom, IsUnderW
 use Rattle.compress.proofs.Cycles.{live_class, live_with}
 use Rattle.compress.proofs.Steps.{end_in_range}
 use Rattle.compress.proofs.Telling.{looked_on}
-use Rattle.compress.proofs.walk.step_back.Goals.{After-as_slice, in-Some+else-is_open, in_default}
+use Rattle.compress.proofs.walk.step_back.Goals.{After-as_mut_slice, After-as_slice, in-Some+else-is_open, in_default}
 use Rattle.compress.proofs.walk.step_back.Goals as goal
 
 -- the step that stands beside the bank is one from there
@@ -19,6 +19,13 @@ head c =
     (sym (get_or_read c.args.walk.now.heads.items c.args.end.0 c.index.result.now
     (omega (arith, c.requires.end, end_in_range _ _ _ _ _ _ w, told.sizes.heads, told.sizes.marks))
     c.index.ensures None) ∙ c.in-Some.is)
+
+-- the look at the step changes nothing of the walk
+unmoved : (c : After-as_mut_slice) → c.match-index.walk ≡ c.args.walk.now
+unmoved c = elim c.match-index.branch [
+  | in-Some+else-is_open w ↦ w.walk-is
+  | in_default w ↦ w.walk-is
+]
 
 pub is_open-requires-clause-debt : goal.is_open-requires-clause-debt
 is_open-requires-clause-debt c =
@@ -77,64 +84,36 @@ next_back-found-requires-clause-claims c = c.requires.claims
 
 pub next_back-found-requires-clause-marks : goal.next_back-found-requires-clause-marks
 next_back-found-requires-clause-marks c =
-    let same : c.match-index.walk ≡ c.args.walk.now = elim c.match-index.branch [
-      | in-Some+else-is_open w ↦ w.walk-is
-      | in_default w ↦ w.walk-is
-    ] in
-    ap length c.as_slice-marks.ensures.value ∙ ap (λ (w : Walk). length w.marks.items) same
+    ap length c.as_slice-marks.ensures.value ∙ ap (λ (w : Walk). length w.marks.items) (unmoved c)
     ∙ c.requires.under_way.told.sizes.marks
 
 pub next_back-found-requires-clause-cursors : goal.next_back-found-requires-clause-cursors
 next_back-found-requires-clause-cursors c =
-    let same : c.match-index.walk ≡ c.args.walk.now = elim c.match-index.branch [
-      | in-Some+else-is_open w ↦ w.walk-is
-      | in_default w ↦ w.walk-is
-    ] in
-    ap length c.as_mut_slice.ensures.value ∙ ap (λ (w : Walk). length w.cursors.items) same
+    ap length c.as_mut_slice.ensures.value ∙ ap (λ (w : Walk). length w.cursors.items) (unmoved c)
     ∙ c.requires.under_way.told.sizes.cursors
 
 pub next_back-found-requires-clause-passed : goal.next_back-found-requires-clause-passed
 next_back-found-requires-clause-passed c =
-    let same : c.match-index.walk ≡ c.args.walk.now = elim c.match-index.branch [
-      | in-Some+else-is_open w ↦ w.walk-is
-      | in_default w ↦ w.walk-is
-    ] in
-    rw (c.as_slice-marks.ensures.value, c.as_mut_slice.ensures.value, same) c.requires.under_way.told.passed
+    rw (c.as_slice-marks.ensures.value, c.as_mut_slice.ensures.value, (unmoved c)) c.requires.under_way.told.passed
 
 pub returns-clause-start : goal.returns-clause-start
 returns-clause-start c =
-    let same : c.match-index.walk ≡ c.args.walk.now = elim c.match-index.branch [
-      | in-Some+else-is_open w ↦ w.walk-is
-      | in_default w ↦ w.walk-is
-    ] in
-    ap (λ (w : Walk). w.start) same
+    ap (λ (w : Walk). w.start) (unmoved (goal.at.returns-clause-start c).After-as_mut_slice)
 
 pub returns-clause-steps : goal.returns-clause-steps
 returns-clause-steps c =
-    let same : c.match-index.walk ≡ c.args.walk.now = elim c.match-index.branch [
-      | in-Some+else-is_open w ↦ w.walk-is
-      | in_default w ↦ w.walk-is
-    ] in
-    ap (λ (w : Walk). w.steps) same
+    ap (λ (w : Walk). w.steps) (unmoved (goal.at.returns-clause-steps c).After-as_mut_slice)
 
 pub returns-clause-marks : goal.returns-clause-marks
 returns-clause-marks c =
-    let same : c.match-index.walk ≡ c.args.walk.now = elim c.match-index.branch [
-      | in-Some+else-is_open w ↦ w.walk-is
-      | in_default w ↦ w.walk-is
-    ] in
-    ap (λ (w : Walk). w.marks) same
+    ap (λ (w : Walk). w.marks) (unmoved (goal.at.returns-clause-marks c).After-as_mut_slice)
 
 pub returns-clause-next : goal.returns-clause-next
 returns-clause-next c =
-    let same : c.match-index.walk ≡ c.args.walk.now = elim c.match-index.branch [
-      | in-Some+else-is_open w ↦ w.walk-is
-      | in_default w ↦ w.walk-is
-    ] in
     subst (λ (m : List Mark). MatchOption c.next_back-found.result
     (IsReady c.args.net.now c.args.class c.args.end.0 c.args.claims.now m)
     (λ (t : Step). LeadsOn c.args.net.now c.args.class c.args.end.0 c.args.claims.now m t.debt.0))
-    (c.as_slice-marks.ensures.value ∙ ap (λ (w : Walk). w.marks.items) same) c.next_back-found.ensures.next
+    (c.as_slice-marks.ensures.value ∙ ap (λ (w : Walk). w.marks.items) (unmoved (goal.at.returns-clause-next c).After-as_mut_slice)) c.next_back-found.ensures.next
 
 pub returns-clause-step : goal.returns-clause-step
 returns-clause-step c = c.next_back-found.ensures.step
@@ -143,11 +122,7 @@ pub returns-clause-under_way : goal.returns-clause-under_way
 returns-clause-under_way c =
     let net = c.args.net.now in
     let C = c.args.claims.now in
-    let same : c.match-index.walk ≡ c.args.walk.now = elim c.match-index.branch [
-      | in-Some+else-is_open w ↦ w.walk-is
-      | in_default w ↦ w.walk-is
-    ] in
-    let old = subst (IsUnderWay net c.args.class C) (sym same) c.requires.under_way in
+    let old = subst (IsUnderWay net c.args.class C) (sym (unmoved (goal.at.returns-clause-under_way c).After-as_mut_slice)) c.requires.under_way in
     let w = c.requires.under_way.walk in
     let look = c.next_back-found in
     looked_on look.new.cursors c.args.end.0 look.result old
