@@ -32,8 +32,8 @@ class Sessions(DeskCase):
         self.assertEqual(
             kept,
             [
-                {"name": "As it is", "state": 0, "note": "", "case": 0},
-                {"name": "All of it", "state": at, "note": "a note\nof two lines", "case": 0},
+                {"name": "As it is", "state": 0, "note": ""},
+                {"name": "All of it", "state": at, "note": "a note\nof two lines"},
             ],
         )
         passed = desk.change(at, set="cut", value="77")["id"]

@@ -236,7 +236,7 @@ test("the debts of two states are held against one another pair by pair", () => 
 });
 
 test("a state of another case stands over the banks of this one", () => {
-  const other = { ...BASE, estate: [1, 2, 3, 4], wave: [0, 0, 0, 0] };
+  const other = { ...BASE, estate: [1, 2, 3, 4] };
   const found = aligned(other, ["D", "X", "A"], NAMES);
   assert.deepEqual(
     [found.state, found.left, found.owed],

@@ -51,7 +51,7 @@ class Application:
     """The WSGI application of a session: its states, those kept under names, and the questions that go on."""
 
     def __init__(self, bottle: ModuleType, desk: Desk, d3: Optional[bytes], others: Sequence[Desk] = ()) -> None:
-        self.bottle, self.desk, self.others, self.has_d3 = bottle, desk, others, d3 is not None
+        self.bottle, self.desk, self.others = bottle, desk, others
         self.steps, self.shelf, self.questions = Steps(), Shelf(), Questions(desk)
         self.at_first = 0  # the state that is shown first
         self.app = bottle.Bottle()
@@ -67,7 +67,7 @@ class Application:
 
     def fix_pages(self, d3: Optional[bytes]) -> None:
         """The pages that are as they are."""
-        self.fix("/", "text/html", page_text(self.has_d3).encode())
+        self.fix("/", "text/html", page_text(d3 is not None).encode())
         self.fix("/style/desk.css", "text/css", style_text().encode())
         for name in SCRIPTS:
             self.fix(f"/script/{name}", "text/javascript", (HERE / "script" / name).read_bytes())
@@ -162,7 +162,7 @@ class Application:
 
     def network(self) -> Dict[str, object]:
         """The network, with the cases beside it."""
-        return {**view.network_view(self.desk, self.others, self.has_d3), "atFirst": self.at_first}
+        return {**view.network_view(self.desk, self.others), "atFirst": self.at_first}
 
     def one_state(self, number: str) -> Dict[str, object]:
         """A state by its number."""

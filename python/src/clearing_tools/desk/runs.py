@@ -62,8 +62,6 @@ class Cleared(NamedTuple):
     banks: List[texts.Bank]
     left: List[int]
     lost: List[int]
-    waves: List[int]
-    more: int  # by which the greatest payments that clear are above the least
     greatest: Optional[End] = None  # the other end, where default costs
 
 
@@ -299,19 +297,17 @@ def joined(keys: List[int], outside: List[int], left: List[int], answers: Answer
     check_left(after, left)
     if bounds.payments.column("least") != after.payments.column("paid"):
         raise runner.ToolError("`clearing bounds` says other least payments than `clearing stress`")
-    waves = bounds.waves.column("wave")
-    more = sum(bounds.payments.column("greatest")) - sum(bounds.payments.column("least"))
     if costs is None:
         banks = [
             texts.Bank(one.bank, one.estate, due, one.outside_paid, one.paid, one.owed, one.equity,
                        "gridlock" if stuck else one.state)
             for one, due, stuck in zip(after.standings, outside, bounds.waves.column("gridlock"))
         ]
-        return Cleared(keys, after.payments, banks, left, [0] * len(banks), waves, more)
+        return Cleared(keys, after.payments, banks, left, [0] * len(banks))
     owed, columns = after.standings.column("owed"), ("debtor", "creditor", "class", "claim", "least")
     least, greatest = (end_at(costs, which, left, owed, outside) for which in ("least", "greatest"))
     payments = Table(Payment, [costs.payments.column(word) for word in columns])
-    return Cleared(keys, payments, least.banks, left, least.lost, waves, 0, greatest)
+    return Cleared(keys, payments, least.banks, left, least.lost, greatest)
 
 
 def end_at(costs: CostBounds, which: str, left: Sequence[int], owed: Sequence[int], outside: Sequence[int]) -> End:

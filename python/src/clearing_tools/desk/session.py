@@ -42,13 +42,12 @@ def archive_of(files: Mapping[str, bytes]) -> bytes:
 
 def saved(desk: Desk, files: Mapping[str, bytes], steps: Steps, shelf: Shelf, at_hand: int) -> bytes:
     """A session as a file. `files` are those of the case, and `at_hand` is the state that is shown."""
-    states_kept = [one for one in shelf.kept[1:] if one.case == 0]
     document = {
         "session": VERSION,
         "scenarios": [[one.name, one.cut, sorted(one.losses.items())] for one in desk.base.scenarios[desk.given:]],
         "states": [
             {"name": one.name, "note": one.note, "state": as_json(steps.state(desk.base, one.state))}
-            for one in states_kept
+            for one in shelf.kept[1:]
         ],
         "atHand": as_json(steps.state(desk.base, at_hand)),
     }

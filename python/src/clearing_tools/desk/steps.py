@@ -26,12 +26,11 @@ class Step(NamedTuple):
 
 
 class Kept(NamedTuple):
-    """A state under a name. `case` is 0 for the case at hand, and the place of another case else."""
+    """A state under a name."""
 
     name: str
     state: int
     note: str = ""
-    case: int = 0
 
 
 class Steps:
@@ -114,7 +113,7 @@ class Shelf:
         self.kept: List[Kept] = [Kept("As it is", 0)]
         self.lock = threading.Lock()
 
-    def keep(self, name: str, state: int, note: str, case: int = 0) -> None:
+    def keep(self, name: str, state: int, note: str) -> None:
         """Keeps a state under a name, in place of what had the name; the first stays as it is."""
         with self.lock:
             place = next((at for at, one in enumerate(self.kept) if one.name == name), len(self.kept))
@@ -124,7 +123,7 @@ class Shelf:
                 raise states.InvalidFieldError(f"“{self.kept[0].name}” is the name of the state as it is", "keep-name")
             if place >= MOST_KEPT:
                 raise states.InvalidFieldError(f"a desk keeps {MOST_KEPT} states at most", "keep-name")
-            self.kept[place:place + 1] = [Kept(name, state, note, case)]
+            self.kept[place:place + 1] = [Kept(name, state, note)]
 
     def drop(self, name: str) -> None:
         """Keeps a state no more; the first stays."""

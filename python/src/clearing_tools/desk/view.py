@@ -3,7 +3,7 @@ amounts are the program's, in units of account."""
 from decimal import Decimal
 from typing import Dict, List, Mapping, NamedTuple, Sequence, Tuple
 
-from clearing_client.format import MAX_LOSS, RULES
+from clearing_client.format import RULES
 from clearing_client.records import Payment
 
 from .. import runner, texts
@@ -19,7 +19,7 @@ from .state import Base, State
 from .steps import Kept
 
 
-def network_view(desk: Desk, others: Sequence[Desk], has_d3: bool) -> Dict[str, object]:
+def network_view(desk: Desk, others: Sequence[Desk]) -> Dict[str, object]:
     """What stays as it is while the desk is there. Names that are shown have signs that are not seen as codes."""
     base, case = desk.base, desk.case
     return {
@@ -33,7 +33,6 @@ def network_view(desk: Desk, others: Sequence[Desk], has_d3: bool) -> Dict[str, 
         "claims": [debt.claim for debt in base.debts],
         "scenarios": scenarios_view(desk),
         "rules": list(RULES),
-        "player": has_d3,
         "program": program_called(),
         "title": runner.shown(case.title),
         "asOf": case.as_of.isoformat() if case.as_of else "",
@@ -43,7 +42,6 @@ def network_view(desk: Desk, others: Sequence[Desk], has_d3: bool) -> Dict[str, 
         "hasUnit": desk.money.unit is not None or desk.money.currency is not None,
         "notes": [runner.shown(note) for note in case.notes],
         "others": [other_view(other) for other in others],
-        "mostLoss": MAX_LOSS,
     }
 
 
@@ -70,8 +68,6 @@ def other_view(desk: Desk) -> Dict[str, object]:
         "debtors": places_of(desk, 0),
         "creditors": places_of(desk, 1),
         "claims": [debt.claim for debt in desk.base.debts],
-        "unit": f"{desk.money.unit or Decimal(1):f}",
-        "currency": desk.money.currency or "",
     }
 
 
@@ -112,9 +108,6 @@ def state_view(desk: Desk, state: State, cleared: Cleared) -> Dict[str, object]:
         "owed": [bank.owed for bank in cleared.banks],
         **end_view(cleared.banks, cleared.lost),
         "greatest": end_view(*cleared.greatest) if cleared.greatest is not None else None,
-        "wave": cleared.waves,
-        "more": cleared.more,
-        "debts": len(cleared.keys),
         # What is paid of each debt; the keys of the debts where they are not those of the files in order.
         "keys": None if is_whole else cleared.keys,
         "flows": cleared.payments.column("paid"),

@@ -1,7 +1,7 @@
 // The state of another case, as one over the banks of this: what states can be held against.
 import { apart } from "./texts.mjs";
 
-const AMOUNTS = ["cash", "outside", "left", "owed", "estate", "lost", "paid", "outsidePaid", "equity", "wave"];
+const AMOUNTS = ["cash", "outside", "left", "owed", "estate", "lost", "paid", "outsidePaid", "equity"];
 
 /**
  * A state of another case, with what leads from its banks to those of this.
