@@ -287,9 +287,7 @@ class Once(unittest.TestCase):
         debts = self.Debts(
             Debt(one, other, 1, 1 + at % 3) for at, (one, other) in enumerate(zip(names, [*names[1:], names[0]]))
         )
-        network = queries.Network(
-            names, [at % 2 for at in range(200)], ["order"] * 200, [at % 5 == 0 for at in range(200)], debts
-        )
+        network = queries.Network(names, [at % 2 for at in range(200)], [at % 5 == 0 for at in range(200)], debts)
         fallen = impact.fallen_of(network, [Harm(one, of, 1, True) for one in names for of in (one, names[0])])
         self.assertEqual((debts.times, len(fallen)), (1, 400))
         for at, (one, of, state) in enumerate(fallen):

@@ -29,9 +29,7 @@ Example:
 from __future__ import annotations
 
 from types import ModuleType
-from typing import (
-    TYPE_CHECKING, Callable, Container, Iterable, Iterator, List, NamedTuple, Optional, Sequence, Set, Tuple,
-)
+from typing import TYPE_CHECKING, Callable, Container, Iterable, Iterator, List, NamedTuple, Sequence, Set, Tuple
 
 from clearing_client.case import Case
 from clearing_client.format import MAX_CUT, MAX_SCENARIOS
@@ -103,15 +101,13 @@ def find(
     banks: int,
     most: int,
     text_of: Callable[[int], bytes],
-    states_of: Callable[[Table[Standing]], List[str]] = states_in,
-    count: Optional[int] = None,
 ) -> Ranges:
-    """The ranges, closed, where `text_of` makes the scenario of a shock, `states_of` gives the states of the banks that
-    are asked for, and about so many shocks are tried in a round."""
+    """The ranges, closed, where `text_of` makes the scenario of a shock. In a round about as many shocks are tried as
+    all processors have in one file of scenarios each."""
     ranges = Ranges(banks, most)
-    while points := ranges.points(count or MAX_SCENARIOS * processors()):
+    while points := ranges.points(MAX_SCENARIOS * processors()):
         texts = [text_of(shock) for shock in points]
-        for shock, states in zip(points, queries.stress(runs, folder, files, texts, states_of)):
+        for shock, states in zip(points, queries.stress(runs, folder, files, texts, states_in)):
             ranges.take(shock, states)
     return ranges
 

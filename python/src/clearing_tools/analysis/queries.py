@@ -19,11 +19,10 @@ T = TypeVar("T")
 
 
 class Network(NamedTuple):
-    """Names, cash, rules and what is owed outside, by the banks' places; and the debts as records."""
+    """Names, cash and what is owed outside, by the banks' places; and the debts as records."""
 
     names: List[str]
     cash: List[int]
-    rules: List[str]
     outside: List[int]
     debts: List[Debt]
 
@@ -42,8 +41,8 @@ def answer_of(runs: ProgramRuns, words: Sequence[str], kind: Type[T]) -> T:
 def network_of(runs: ProgramRuns, words: Sequence[str]) -> Network:
     """The network as `clearing check` prints it."""
     check = answer_of(runs, ["check", *words], Check)
-    names, cash, rules, outside = (check.banks.column(name) for name in ("name", "cash", "rule", "outside"))
-    return Network(names, cash, rules, outside, list(check.debts))
+    names, cash, outside = (check.banks.column(name) for name in ("name", "cash", "outside"))
+    return Network(names, cash, outside, list(check.debts))
 
 
 def spare_of(network: Network) -> Dict[str, int]:

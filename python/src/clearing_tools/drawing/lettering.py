@@ -6,6 +6,7 @@ BOLD = 1.12  # how much wider bold letters are
 WIDTHS = {"mwMW@%…": 0.88, "frtI()[]/-": 0.4, "ijl.,:;|' ": 0.33, "0123456789": 0.64}
 WIDTH_OF = {letter: width for letters, width in WIDTHS.items() for letter in letters}
 CUT = "…"
+MOST_IN_SENTENCE = 28  # so many letters of a name stand in a sentence
 LEAST_WORD = 4  # a cut is after a whole word of so many letters, so that no line ends with an article
 
 
@@ -64,11 +65,12 @@ def lines_of(text: str, width: float, size: float, is_bold: bool = False, most: 
     return [*lines, cut(" ".join(words), width, size, is_bold)] if words else lines
 
 
-def short(text: str, most: int = 28) -> str:
-    """A name in a sentence: whole up to so many letters, else cut after a whole word of four letters or more."""
-    if len(text) <= most:
+def short(text: str) -> str:
+    """A name in a sentence: whole where it is not long, else cut after a whole word of four letters or more."""
+    if len(text) <= MOST_IN_SENTENCE:
         return text
-    words_kept = text[:most].rpartition(" ")[0].split(" ") if " " in text[:most] else [text[: most - 1]]
+    start = text[:MOST_IN_SENTENCE]
+    words_kept = start.rpartition(" ")[0].split(" ") if " " in start else [start[:-1]]
     while len(words_kept) > 1 and len(words_kept[-1]) < LEAST_WORD:
         words_kept.pop()
     return " ".join(words_kept).rstrip(",;:-") + CUT

@@ -47,7 +47,7 @@ def texts_on(chart: svg.Svg, lines: Sequence[str], at: float, x: float, kind: st
     return at
 
 
-def picture(drawn: Drawn, title: str, below: str, theme: str = "light") -> str:
+def picture(drawn: Drawn, title: str, below: str) -> str:
     """A whole SVG file: the title, the unit below it, the drawing, and the legend."""
     x0, y0, x1, y1 = drawn.box
     wide = max(x1 - x0, LEAST_WIDE) + 2 * EDGE
@@ -65,7 +65,7 @@ def picture(drawn: Drawn, title: str, below: str, theme: str = "light") -> str:
         lines = lettering.lines_of(plain(words), wide - LEGEND - 24, WORDS, False, MOST_LINES)
         at = texts_on(chart, lines, at, LEGEND, "sub", WORDS_STEP) + 3
     chart.height = at
-    return chart.whole(svg.style_of(theme), ground=True) + "\n"
+    return chart.whole(svg.style_of(), ground=True) + "\n"
 
 
 def plain(text: str) -> str:

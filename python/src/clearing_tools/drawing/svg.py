@@ -116,9 +116,9 @@ class Svg:
         return element("svg", {**file, **box, **words}, *inner, *self.parts)
 
 
-def style_of(theme: str = "light") -> str:
-    """The style of charts in the colours of a theme, for a file of its own."""
+def style_of() -> str:
+    """The style of charts in light colours, for a file of its own."""
     text = (tokens.FILE.parent / "charts.css").read_text(encoding="utf-8")
-    for name, value in tokens.tokens_of(theme).items():
+    for name, value in tokens.tokens_of("light").items():
         text = text.replace(f"var(--{name})", value)
     return " ".join(text.split())

@@ -104,8 +104,6 @@ def write_tables(tables: Tables, output: Optional[str]) -> None:
     files.put(content_of(tables, output), output, status=5, folders=False)
 
 
-def write_table(
-    header: Sequence[str], records: Iterable[Sequence[object]], output: Optional[str], title: str = "table"
-) -> None:
+def write_table(header: Sequence[str], records: Iterable[Sequence[object]], output: Optional[str]) -> None:
     """Writes one table in the same way."""
-    write_tables({title: [header, *records]}, output)
+    write_tables({"table": [header, *records]}, output)

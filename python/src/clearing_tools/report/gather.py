@@ -138,7 +138,6 @@ class Gathering:
             cash=self.cash,
             rules={bank.name: bank.rule for bank in self.known},
             debts=self.debts,
-            waves={wave.bank: wave.wave for wave in self.bounds.waves},
             more=greatest - least,
             rescues=self.rescues,
             ruins=list(self.impact.banks),

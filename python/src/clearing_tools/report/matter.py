@@ -33,7 +33,6 @@ class Matter:
     cash: Dict[str, int]
     rules: Dict[str, str]
     debts: Sequence[Payment]
-    waves: Dict[str, int]
     more: int
     rescues: List[Rescue]
     ruins: List[Ruin]

@@ -64,9 +64,9 @@ class Scan:
     def text(self, text: str) -> None:
         """Sees characters."""
 
-    def up(self, above: int = 1) -> Tuple[str, str]:
-        """The element so many above the last of the path."""
-        return self.path[-1 - above] if len(self.path) > above else ("", "")
+    def up(self) -> Tuple[str, str]:
+        """The element above the last of the path."""
+        return self.path[-2] if len(self.path) > 1 else ("", "")
 
 
 def see_title(name: str, title: str, titles: Set[str]) -> None:
