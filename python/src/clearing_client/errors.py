@@ -145,7 +145,7 @@ class TextError(ClearingError, ValueError):
     """A text that the program does not print. `line` is the number of the line from 1, 0 for the whole text."""
 
     def __init__(self, line: int, what: str) -> None:
-        self.line, self.what = line, what
+        self.line = line
         super().__init__(f"line {line}: {what}" if line else what)
 
 

@@ -2,6 +2,7 @@
 from __future__ import annotations
 
 import contextlib
+import dataclasses
 import os
 import sys
 import warnings
@@ -436,9 +437,10 @@ class Network:
         data = read_file(journal, None) if isinstance(journal, FILE) else journal_bytes(journal)
         by = limits or (journal.limits if isinstance(journal, Journal) else None)
         verdict = self._ask(Verdict, "replay", third=("journal", data), timeout=timeout, limits=by)
-        if verdict.entry is not None:
-            object.__setattr__(verdict, "record", raise_of(data, verdict.entry))
-        return verdict
+        if verdict.entry is None:
+            return verdict
+        answer = dataclasses.replace(verdict, record=raise_of(data, verdict.entry))
+        return answer.with_source(verdict.text, verdict.network, verdict.limits)
 
     # How the program is asked
 
