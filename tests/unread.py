@@ -7,8 +7,8 @@ read where its name stands behind a value of its class, or of one above or below
 Another class's field of the same name is another field. A default is that of a parameter, or of a field of a record:
 where no call passes anything in its place it is no choice.
 
-The name alone counts where nothing has a type: in templates, in what getattr and columns of tables are asked for, and
-in functions of a type variable that is one of some types, of whose bodies mypy keeps no types. It wants mypy.
+The name alone counts where nothing has a type: in the templates of the report, and within a room of the packages in
+functions of a type variable that is one of some types, of whose bodies mypy keeps no types. It wants mypy.
 """
 import ast
 import io
@@ -29,7 +29,6 @@ WHOLE = {"_asdict", "_fields"}
 OF_RECORDS = {"asdict", "astuple", "fields"}
 OF_TUPLES = {"list", "map", "max", "min", "set", "sorted", "sum", "tuple", "zip"}
 SETTINGS = pathlib.Path(__file__).resolve().parents[1] / "python/pyproject.toml"
-BY_NAME = {"attrgetter", "column", "getattr"}  # what is asked for names as texts
 
 
 class Declared(NamedTuple):
@@ -148,10 +147,10 @@ class Reader(TraverserVisitor):
         self.iterable = result.files["typing"].names["Iterable"].node
         self.read: Set[Member] = set()
         self.passed: Set[Member] = set()
-        self.names: Set[str] = set()  # that are read of values without a type
-        self.calls: Set[str] = set()  # of functions that are not known, by their names
+        self.names: Set[Member] = set()  # that are read of values without a type, by the room
+        self.calls: Set[Member] = set()  # of functions that are not known, by the room and their names
         self.targets: Set[nodes.Node] = set()
-        self.is_package = False
+        self.room = ""  # of the module that is gone over, where it is of the packages
 
     def type_of(self, expression: nodes.Expression) -> Optional[types.ProperType]:
         """The type of an expression, None where there is none."""
@@ -273,8 +272,8 @@ class Reader(TraverserVisitor):
             for info in infos_of(kind):
                 self.take(info, expression.name)
             is_module = isinstance(value, nodes.RefExpr) and isinstance(value.node, nodes.MypyFile)
-            if kind is None and not is_module and self.is_package:
-                self.names.add(expression.name)
+            if kind is None and not is_module:
+                self.names.add((self.room, expression.name))
             if expression.name in WHOLE:
                 self.take_whole(kind)
         super().visit_member_expr(expression)
@@ -287,11 +286,8 @@ class Reader(TraverserVisitor):
         for kind in map(self.type_of, call.args):
             if name in OF_RECORDS or (name in OF_TUPLES and isinstance(kind, types.TupleType)):
                 self.take_whole(kind)
-        if name in BY_NAME:
-            words = [argument.value for argument in call.args if isinstance(argument, nodes.StrExpr)]
-            self.names.update(words)
-            if name == "getattr" and not words:
-                self.take_whole(self.types.get(call.args[0]))
+        if name in ("getattr", "column"):
+            self.take_by_text(call, name == "getattr")
         if name in ("replace", "_replace"):
             record = call.callee.expr if isinstance(call.callee, nodes.MemberExpr) and name[0] == "_" else call.args[0]
             for info in infos_of(self.types.get(record)):
@@ -300,6 +296,19 @@ class Reader(TraverserVisitor):
         first = int(name == "partial")
         self.pass_on(call.args[0] if first else call.callee, call.arg_names[first:], call.arg_kinds[first:])
         super().visit_call_expr(call)
+
+    def take_by_text(self, call: nodes.CallExpr, is_getattr: bool) -> None:
+        """Takes in what is read by a name that is a text: of a value, or of the records of a table. Where the name is
+        put together, it may be any."""
+        record, name = (self.type_of(call.args[0]), call.args[1]) if is_getattr else (None, call.args[0])
+        if not is_getattr and isinstance(call.callee, nodes.MemberExpr):
+            table = self.type_of(call.callee.expr)
+            record = types.get_proper_type(table.args[0]) if isinstance(table, types.Instance) and table.args else None
+        if not isinstance(name, nodes.StrExpr):
+            self.take_whole(record)
+        else:
+            for info in infos_of(record):
+                self.take(info, name.value)
 
     def pass_on(
         self, callee: nodes.Expression, names: Sequence[Optional[str]], kinds: Sequence[nodes.ArgKind]
@@ -311,8 +320,10 @@ class Reader(TraverserVisitor):
             count = len(parameters) if has_star else sum(kind.is_positional() for kind in kinds)
             self.passed.update(parameters[:count])
             self.passed.update(member for member in parameters if member[1] in names)
-        if not found and self.is_package and kinds:
-            self.calls.add(last_name(callee))
+        kind = self.type_of(callee.expr) if isinstance(callee, nodes.MemberExpr) else None
+        of_module = isinstance(kind, types.Instance) and kind.type.fullname == "types.ModuleType"
+        if not found and kinds and (kind is None or of_module):
+            self.calls.add(("" if of_module else self.room, last_name(callee)))
 
     def called(self, callee: nodes.Expression) -> List[nodes.Node]:
         """The functions and classes that an expression may call."""
@@ -371,6 +382,11 @@ def result_of(root: pathlib.Path, sources: List[modulefinder.BuildSource]) -> bu
     return build.build(sources, settings)
 
 
+def room_of(name: str) -> str:
+    """The room of the packages in which a module stands, or what a module has."""
+    return ".".join(name.split(".")[:2])
+
+
 def words_of_templates(root: pathlib.Path) -> Set[str]:
     """The names behind a point or in quotation marks in the templates of pages."""
     paths = (root / "python/src").rglob("*.html")
@@ -411,18 +427,19 @@ def unread_in(root: pathlib.Path) -> Iterator[str]:
     declared = [declared_in(module, ast.parse(path.read_text(encoding="utf-8"))) for module, path in packages.items()]
     reader = Reader(result, {name: fields for one in declared for name, fields in one.records.items()})
     for source in sources:
-        reader.is_package = source.module in packages
+        reader.room = room_of(source.module) if source.module in packages else "none"
         result.files[source.module].accept(reader)
     family, templates = Family(result, set(packages)), words_of_templates(root)
     for name, field in (pair for one in declared for pair in one.fields):
-        is_named = field in reader.names or (field in templates and ".report." in name)
+        is_named = (room_of(name), field) in reader.names or (field in templates and ".report." in name)
         is_read = any((other, field) in reader.read for other in family.of(name))
         if not is_named and not is_read and not family.is_of_library(name, field):
             yield f"{name}.{field}"
     for name, word in (pair for one in declared for pair in one.defaults):
         owner, _, method = name.rpartition(".")
         others = family.of(name) | {f"{other}.{method}" for other in family.of(owner)}
-        if method not in reader.calls and not any((other, word) in reader.passed for other in others):
+        is_called = {(room_of(name), method), ("", method)} & reader.calls
+        if not is_called and not any((other, word) in reader.passed for other in others):
             yield f"{name}({word})"
 
 

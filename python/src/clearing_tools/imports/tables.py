@@ -25,7 +25,7 @@ class Sheet(Generic[Key]):
 
     def __init__(self, name: str, form: Form, faults: Faults) -> None:
         source = rows_of(name, form)
-        self.name, self.label, self.faults, self.sheet = name, source.label, faults, source
+        self.label, self.faults, self.sheet = source.label, faults, source
         self.before = form.before
         self.first, header = source.rows[0]
         width = self.width_of(source.rows)
