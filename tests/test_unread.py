@@ -1,11 +1,13 @@
 """Nothing is there for nobody: each field of the packages is read somewhere, each default is a choice that some call
-makes, and each key of the desk's answers is one that the scripts of its page read."""
+makes, each parameter is looked at, and each key of the desk's answers is one that the scripts of its page read."""
 import ast
+import collections
 import re
 import subprocess
 import unittest
 
 from common import ROOT, Case, needs_modules, python_with
+from test_client_types import SCRIPTS, SOURCES
 from test_scripts import MODULES
 
 TOOLS = ROOT / "python/src/clearing_tools"
@@ -121,6 +123,36 @@ class Packages(Case):
         idle = ["Pair.idle", "Pair.passed_over", "Keys.idle", "Kept.idle", "Slots.idle"]
         fixed = ["Other(idle)", "Kept(unset)", "Slots(idle)", "Slots.more(by)", "work(most)"]
         self.assertEqual(unread_in(self.folder), [f"clearing_tools.planted.{name}" for name in [*idle, *fixed]])
+
+
+def unused_in(texts):
+    """The parameters that the bodies of functions do not name, of modules by their names. A function that is passed on,
+    or has the name of another, has the parameters that all such functions have; one that only says what it is for is
+    there to be overridden."""
+    trees = {path: ast.parse(text) for path, text in texts.items()}
+    every = [node for tree in trees.values() for node in ast.walk(tree)]
+    called = {id(node.func) for node in every if isinstance(node, ast.Call)}
+    passed_on = {getattr(node, "id", getattr(node, "attr", "")) for node in every if id(node) not in called}
+    names = collections.Counter(node.name for node in every if isinstance(node, ast.FunctionDef))
+    for path, tree in trees.items():
+        for one in ast.walk(tree):
+            if not isinstance(one, ast.FunctionDef) or one.name in passed_on or names[one.name] > 1:
+                continue
+            body = one.body[1:] if ast.get_docstring(one) else one.body
+            named = {node.id for part in body for node in ast.walk(part) if isinstance(node, ast.Name)}
+            given = [arg.arg for arg in [*one.args.posonlyargs, *one.args.args, *one.args.kwonlyargs]]
+            idle = [word for word in given if word not in {"self", "cls", *named} and not word.startswith("_")]
+            yield from (f"{path}: {one.name}({word})" for word in idle if body)
+
+
+class Parameters(unittest.TestCase):
+    def test_each_is_looked_at(self):
+        """But for those of the functions by which an installer has the wheel built."""
+        paths = {*SOURCES, *SCRIPTS} - {ROOT / "python/build.py"}
+        texts = {path.relative_to(ROOT): path.read_text(encoding="utf-8") for path in sorted(paths)}
+        self.assertEqual(list(unused_in(texts)), [])
+        planted = "def work(one, idle):\n    return one\n\n\ndef other(idle):\n    pass\n\n\nmap(other, [work(1, 2)])\n"
+        self.assertEqual(list(unused_in({"planted.py": planted})), ["planted.py: work(idle)"])
 
 
 def keys_made(places):

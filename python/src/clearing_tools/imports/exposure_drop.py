@@ -78,7 +78,7 @@ class ExposureDropping(OnExposureSheets):
         for row in rows:
             side = owes if str(self.list.cell(row, self.sheets.columns.debtor)) == name else owed
             side.add(self.sheets.quiet(row) or 0)
-        self.faults.at_row(self.list, rows[0] if rows else None, no_total(self.list, name, owes, owed))
+        self.faults.at_row(self.list, rows[0] if rows else None, no_total(name, owes, owed))
 
     def leave_out_banks(self) -> None:
         """Leaves out the banks that are named by --leave-out, with all that they owe and are owed, and tells it."""

@@ -77,7 +77,7 @@ class Gone:
                 summary.tell(f"{column} left out {word}", 1, amount, step="leftOut")
 
 
-def no_total(table: AnySheet, name: str, owes: Counted, owed: Counted) -> str:
+def no_total(name: str, owes: Counted, owed: Counted) -> str:
     """What is said of a name that is to be dropped and is no line of totals."""
     has = " and ".join(
         f"{what} {counted.count:,} {'debt' if counted.count == 1 else 'debts'} of {shown(counted.sum)}"

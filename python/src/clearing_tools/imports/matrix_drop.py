@@ -51,7 +51,7 @@ class MatrixDropping:
         gone = self.gone_with(name)
         is_bank = gone.owes.count or gone.owed.count or name in self.table.rows
         if not is_total and not is_called_total(name) and is_bank:
-            what = no_total(self.matrix, name, gone.owes, gone.owed)
+            what = no_total(name, gone.owes, gone.owed)
             self.faults.at_row(self.matrix, self.matrix.rows.get(name), what)
             return
         if not is_total and name in self.table and name not in self.matrix.rows:

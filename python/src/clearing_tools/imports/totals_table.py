@@ -4,7 +4,7 @@ from typing import Iterable, List
 
 from . import made_case, options
 from .amounts import Amount, shown
-from .columns import Columns, columns_of, need_usual
+from .columns import columns_of, need_usual
 from .control import TotalLines
 from .faults import Faults
 from .left_out import (
@@ -21,18 +21,13 @@ class TotalsTable:
     """The banks of a table of totals, what each owes and is owed, and the columns of other amounts. Where the sums
     differ there is a bank more, for those who are not in the file."""
 
-    def __init__(
-        self,
-        args: TotalsOptions,
-        faults: Faults,
-        summary: Summary,
-        table: Table,
-        columns: Columns,
-        assets: str,
-        liabilities: str,
-    ) -> None:
-        self.args, self.faults, self.summary, self.table = args, faults, summary, table
-        self.columns, self.assets, self.liabilities = columns, assets, liabilities
+    def __init__(self, args: TotalsOptions, faults: Faults, summary: Summary) -> None:
+        self.args, self.faults, self.summary = args, faults, summary
+        self.table = Table(args.file, args.form, faults)
+        self.assets = need_usual(faults, self.table, "assets", args.assets)
+        self.liabilities = need_usual(faults, self.table, "liabilities", args.liabilities)
+        cash = need_usual(faults, self.table, "cash", args.cash)
+        self.columns = columns_of(faults, args, self.table, cash, others=(self.assets, self.liabilities))
         self.banks: List[Bank] = []
         self.names: List[str] = []
         self.owes: List[Amount] = []
@@ -41,17 +36,12 @@ class TotalsTable:
     @classmethod
     def read(cls, args: TotalsOptions, faults: Faults, summary: Summary) -> "TotalsTable":
         """Reads the table, leaves out what is to be left out, and adds the bank more."""
-        table = Table(args.file, args.form, faults)
-        assets = need_usual(faults, table, "assets", args.assets)
-        liabilities = need_usual(faults, table, "liabilities", args.liabilities)
-        cash = need_usual(faults, table, "cash", args.cash)
-        columns = columns_of(faults, args, table, cash, others=(assets, liabilities))
+        sheet = cls(args, faults, summary)
         if args.label_column:
-            need_column(faults, table, "label-column", args.label_column)
+            need_column(faults, sheet.table, "label-column", args.label_column)
         faults.end_if_any()
-        tell_read(summary, [table], args)
-        made_case.check_columns(args.of_case.columns, table, faults)
-        sheet = cls(args, faults, summary, table, columns, assets, liabilities)
+        tell_read(summary, [sheet.table], args)
+        made_case.check_columns(args.of_case.columns, sheet.table, faults)
         sheet.tell_others()
         sheet.drop_totals()
         sheet.take_banks()
@@ -99,7 +89,7 @@ class TotalsTable:
             totals.check(name, faults, self.summary)
             gone = self.gone_with(name)
             if name in table.rows and name not in totals.rows:
-                faults.at_row(table, table.rows[name], no_total(table, name, gone.owes, gone.owed))
+                faults.at_row(table, table.rows[name], no_total(name, gone.owes, gone.owed))
                 continue
             if not table.has_line(name):
                 faults.add_general(table, no_line_to_drop(name))
