@@ -41,6 +41,15 @@ def reason() -> str:
 REASON = reason()
 
 
+class Keys:
+    """Keys by the signs that WebDriver has for them (its standard, W3C 2018), so that a test names one where Selenium
+    is missing too."""
+
+    BACKSPACE, TAB, ENTER = "\ue003", "\ue004", "\ue007"
+    SHIFT, CONTROL, ESCAPE = "\ue008", "\ue009", "\ue00c"
+    END, HOME, ARROW_LEFT, ARROW_RIGHT = "\ue010", "\ue011", "\ue012", "\ue014"
+
+
 def selenium(module: str) -> Any:
     """A module of Selenium, which has types in some versions alone."""
     return importlib.import_module(f"selenium.webdriver.{module}")

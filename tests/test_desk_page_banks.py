@@ -2,6 +2,7 @@
 import re
 import unittest
 
+from browser import Keys
 from common import TWELVE, clearing, files_of
 from desk import payments_of, wrapped
 from desk_page import DeskPage, large, strip
@@ -122,8 +123,6 @@ class Banks(DeskPage):
         self.until(lambda: "Elbe" in self.text("bank-name"))
 
     def test_a_bank_is_found_among_a_thousand(self):
-        from selenium.webdriver.common.keys import Keys
-
         self.open(large(self.folder, 1000, 3000), "--labels", self.file("l.csv", "code,name\nbank 555,Osuuspankki Å\n"))
         self.focus("find")
         self.press("ank 77")
@@ -163,8 +162,6 @@ class Banks(DeskPage):
         self.until(lambda: " per mille of the cash before this cut (" in self.text("breaks"))
 
     def test_a_question_that_takes_time_says_how_far_it_is_and_is_stopped(self):
-        from selenium.webdriver.common.keys import Keys
-
         files = large(self.folder, 62, 62)
         self.open(files, program=wrapped(self, "case $1 in outcomes|rescues) sleep 0.7;; esac"))
         # So many banks are not asked for unasked.

@@ -4,17 +4,13 @@ import json
 import os
 import shutil
 
-import test_evidence
-from test_evidence import evidence
+from evidences import EvidenceCase, evidence
 
 TOTALS = "bank,assets,liabilities,cash\nA,100,60,20\nB,50,90,10\nC,70,40,30\nD,30,60,5\n"
 LIST = "lender,borrower,amount,currency\nB,A,10,EUR\nA,B,4,USD\nB,A,10,EUR\n"
 
 
-class Source(test_evidence.Evidence):
-    # The tests of evidence itself run once.
-    locals().update({name: None for name in vars(test_evidence.Evidence) if name.startswith("test_")})
-
+class Source(EvidenceCase):
     def make(self, command):
         return evidence("make", self.folder / "evidence", "--source", command, cwd=self.folder)
 

@@ -1,15 +1,11 @@
 """`clearing-from-list` makes the two files of a list of debts, and says what it left out."""
-from common import ROOT, Case
+from common import ROOT
+from imported import ImportCase
 
 TABLE = "bank,cash,outside,rule\nA,3,0,order\nB,4,1,equal\nC,5,0,webster\n"
 
 
-class List(Case):
-    def setUp(self):
-        super().setUp()
-        self.banks, self.debts = self.folder / "banks.csv", self.folder / "debts.csv"
-        self.files = ["--banks", self.banks, "--debts", self.debts]
-
+class List(ImportCase):
     def words(self, text, table=TABLE):
         return [self.file("list.csv", text), "--table", self.file("table.csv", table), *self.files]
 
@@ -19,11 +15,7 @@ class List(Case):
 
     def refuse(self, message, text, *more, table=TABLE):
         self.refused("clearing-from-list", 1, message, *self.words(text, table), *more)
-        self.assertFalse(self.banks.exists() or self.debts.exists())
-
-    def check(self, banks, debts):
-        self.assertEqual((self.banks.read_text(), self.debts.read_text()), (banks, debts))
-        self.printed("check", *self.files)
+        self.nothing_made()
 
     def test_a_list_becomes_two_files(self):
         self.assertEqual(

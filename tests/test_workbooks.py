@@ -8,6 +8,7 @@ import sys
 import zipfile
 
 from common import ROOT, Case, files_of, needs, needs_modules, python_with, tool
+from imported import ImportCase
 
 PYTHON = python_with("openpyxl") or sys.executable
 BANKS = "name,cash,rule\nA,3,webster\nB,4,webster\nC,5,webster\n"
@@ -28,12 +29,7 @@ def written(path, sheets, change=""):
 
 
 @needs_modules("openpyxl")
-class Workbooks(Case):
-    def setUp(self):
-        super().setUp()
-        self.banks, self.debts = self.folder / "banks.csv", self.folder / "debts.csv"
-        self.files = ["--banks", self.banks, "--debts", self.debts]
-
+class Workbooks(ImportCase):
     def take(self, *words, name="clearing-from-matrix"):
         return self.told(name, *words, *self.files, python=PYTHON)
 
@@ -41,11 +37,11 @@ class Workbooks(Case):
         done = tool(name, *words, *self.files, python=PYTHON)
         self.assertEqual((done.returncode, done.stdout), (status, ""), done.stderr)
         self.assertIn(message, done.stderr)
-        self.assertFalse(self.banks.exists() or self.debts.exists())
+        self.nothing_made()
 
-    def check(self, banks=BANKS, debts=DEBTS):
-        self.assertEqual((self.banks.read_text(), self.debts.read_text()), (banks, debts))
-        self.printed("check", *self.files)
+    def check(self, banks: str = BANKS, debts: str = DEBTS) -> None:
+        """The two files that were made are these, by default those of the matrix; then they are taken away."""
+        super().check(banks, debts)
         self.banks.unlink(), self.debts.unlink()
 
     def test_a_matrix_of_a_workbook_is_that_of_its_text(self):

@@ -369,46 +369,63 @@ def limits(rng):
     return rng.choice([[], [], ["--limits", "standard"], WIDE])
 
 
-def files_and_cases(rng, net):
-    """The files of a network by their names, and its cases: the words of a run, its text, and its status."""
-    second = any(bank.outside for bank in net.banks) or rng.random() < 0.3
-    scenarios = random_scenarios(rng, net)
-    texts = {
-        "banks.csv": dressed(rng, banks_text(net, second), {1, 3}),
-        "debts.csv": dressed(rng, debts_text(net), {3}),
-        "scenarios.toml": scenarios_toml(net, scenarios).encode(),
-    }
-    files = ["--banks", "banks.csv", "--debts", "debts.csv"]
-    workers = lambda: str(rng.choice([rng.randint(1, 9), rng.randint(1, 64)]))
-    how = lambda: rng.choice([[], ["--workers", workers()], ["--sweeps", str(rng.choice([1, 2, 7, 1000]))]])
-    low = least(net)
+FILES = ["--banks", "banks.csv", "--debts", "debts.csv"]
+
+
+def workers(rng):
+    """A number of workers: of some, or of as many as there may be."""
+    return str(rng.choice([rng.randint(1, 9), rng.randint(1, 64)]))
+
+
+def plan(rng):
+    """The option of workers or that of sweeps, or none."""
+    return rng.choice([[], ["--workers", workers(rng)], ["--sweeps", str(rng.choice([1, 2, 7, 1000]))]])
+
+
+def cases_of_one_answer(rng, net, low, scenarios):
+    """Cases that clear a network a few times at most."""
     cases = [
-        (["clear", *files, *how()], payments_text(net, low), 0),
-        (["central", *files], payments_text(net, low), 0),
-        (["defaults", *files, *how()], defaults_text(net, low), 0),
-        (["bounds", *files, *how()], bounds_text(net), 0),
-        (["stress", *files, "--scenarios", "scenarios.toml", *how()], stress_text(net, scenarios), 0),
-        (["check", *files], check_text(net), 0),
-        (["convert", *files], banks_text(net, True), 0),
+        (["clear", *FILES, *plan(rng)], payments_text(net, low), 0),
+        (["central", *FILES], payments_text(net, low), 0),
+        (["defaults", *FILES, *plan(rng)], defaults_text(net, low), 0),
+        (["bounds", *FILES, *plan(rng)], bounds_text(net), 0),
+        (["stress", *FILES, "--scenarios", "scenarios.toml", *plan(rng)], stress_text(net, scenarios), 0),
+        (["check", *FILES], check_text(net), 0),
+        (["convert", *FILES], banks_text(net, True), 0),
     ]
     for keep in [1000, rng.choice([0, 1, 999]), rng.randint(0, 1000)]:
-        cases.append((["costs", *files, "--keep", str(keep)], costs_text(net, keep), 0))
-        cases.append((["cost-bounds", *files, "--keep", str(keep)], cost_bounds_text(net, keep), 0))
-    cases += further_cases(rng, net, low, files, scenarios)
+        cases.append((["costs", *FILES, "--keep", str(keep)], costs_text(net, keep), 0))
+        cases.append((["cost-bounds", *FILES, "--keep", str(keep)], cost_bounds_text(net, keep), 0))
+    return cases
+
+
+def rescue_cases(rng, net):
+    """Rescues of up to three banks, where they do not lack much: the model tries each sum. A name that begins with a
+    dash cannot be said."""
+    cases = []
     for i in rng.sample(range(len(net.banks)), min(3, len(net.banks))):
         name = net.banks[i].name
         if due(net, i) - net.banks[i].cash > 100:
             continue
-        words = ["rescue", *files, "--bank", name, *how()]
+        words = ["rescue", *FILES, "--bank", name, *plan(rng)]
         cases.append((words, "", 2) if name.startswith("-") else (words, rescue_text(net, i), 0))
+    return cases
+
+
+def generated_cases(rng):
+    """A network that the program makes, and that no limits are said of it."""
     seed, size = rng.choice([rng.randrange(100), rng.randrange(2**64)]), (
         rng.randint(1, 8) if rng.random() < 0.9 else rng.randint(9, 40)
     )
     tries = rng.randint(0, 5 * size)
-    made = ["gen", "--seed", str(seed), "--size", str(size), "--tries", str(tries), *how()]
-    cases.append((made, gen_text(generated(seed, size, tries)), 0))
-    cases.append(([*made, "--limits", rng.choice(["standard", "wide"])], "", 2))
-    raises = random_journal(rng, net)
+    made = ["gen", "--seed", str(seed), "--size", str(size), "--tries", str(tries), *plan(rng)]
+    text = gen_text(generated(seed, size, tries))
+    return [(made, text, 0), ([*made, "--limits", rng.choice(["standard", "wide"])], "", 2)]
+
+
+def journals_and_cases(rng, net, low):
+    """Four journals by their names, the first of which is lawful and ends at the least payments, and their replays."""
+    texts, cases, raises = {}, [], random_journal(rng, net)
     for n in range(4):
         tried = raises if n == 0 else changed_journal(rng, net, raises)
         text, status, paid = verdict(net, tried)
@@ -416,22 +433,31 @@ def files_and_cases(rng, net):
         rounds = rng.choice([None, 0, 12])
         texts[f"journal{n}.csv"] = dressed(rng, journal_text(net, tried, rounds), {0, 4})
         text += "" if status else "\n" + payments_text(net, paid)
-        cases.append((["replay", *files, "--journal", f"journal{n}.csv"], text, status))
+        cases.append((["replay", *FILES, "--journal", f"journal{n}.csv"], text, status))
+    return texts, cases
+
+
+def files_and_cases(rng, net):
+    """The files of a network by their names, and its cases: the words of a run, its text, and its status. Then the
+    words of two runs that are judged, since more than one answer is right: of a journal, and of a compression."""
+    second = any(bank.outside for bank in net.banks) or rng.random() < 0.3
+    scenarios = random_scenarios(rng, net)
+    texts = {
+        "banks.csv": dressed(rng, banks_text(net, second), {1, 3}),
+        "debts.csv": dressed(rng, debts_text(net), {3}),
+        "scenarios.toml": scenarios_toml(net, scenarios).encode(),
+    }
+    low = least(net)
+    cases = cases_of_one_answer(rng, net, low, scenarios)
+    cases += further_cases(rng, net, low, FILES, scenarios)
+    cases += rescue_cases(rng, net)
+    cases += generated_cases(rng)
+    journals, replays = journals_and_cases(rng, net, low)
     # Within the standard limits both give the same.
-    cases = [(words + limits(rng) if words[0] != "gen" else words, *told) for words, *told in cases]
-    # What is judged, since more than one answer is right.
-    shown = [
-        "clear",
-        *files,
-        *limits(rng),
-        "--show",
-        "journal",
-        "--workers",
-        workers(),
-        "--sweeps",
-        str(rng.choice([1, 1, 2, 7, 1000])),
-    ]
-    return texts, cases, shown, ["compress", *files]
+    cases = [(words + limits(rng) if words[0] != "gen" else words, *told) for words, *told in cases + replays]
+    shown = ["clear", *FILES, *limits(rng), "--show", "journal", "--workers", workers(rng)]
+    shown += ["--sweeps", str(rng.choice([1, 1, 2, 7, 1000]))]
+    return {**texts, **journals}, cases, shown, ["compress", *FILES]
 
 
 STANDARD, WIDE = ["--limits", "standard"], ["--limits", "wide"]
