@@ -6,11 +6,10 @@ import os
 import shutil
 import subprocess
 import sys
-import time
 import unittest
-from typing import Any, Callable, Dict, List, Tuple
+from typing import Any, Dict, List, Tuple
 
-from common import python_with
+from common import Case, python_with
 
 D3 = "/usr/share/nodejs/d3/dist/d3.min.js"
 
@@ -56,7 +55,7 @@ def selenium(module: str) -> Any:
 
 
 @unittest.skipIf(REASON, REASON)
-class Browsing(unittest.TestCase):
+class Browsing(Case):
     """A browser without a window, which logs what is asked and what its console says."""
 
     WAIT = float(os.environ.get("WAIT", "120"))
@@ -115,13 +114,6 @@ class Browsing(unittest.TestCase):
     def js(self, script: str, *words: object) -> Any:
         """What a script of the page returns, which has the words as `arguments`."""
         return self.driver.execute_script(script, *words)
-
-    def until(self, holds: Callable[[], object]) -> None:
-        """Waits for something to hold; the machine may be busy with something else."""
-        ends = time.monotonic() + self.WAIT
-        while not holds():
-            self.assertLess(time.monotonic(), ends, "it never came to be")
-            time.sleep(0.03)
 
     def click(self, key: str) -> None:
         """Clicks the element of an id."""

@@ -9,7 +9,7 @@ import unittest
 from typing import Any, Dict, Iterable, List, Optional, Sequence, Tuple
 
 from browser import Browsing, Keys, selenium
-from common import TWELVE, Case, Word, files_of
+from common import TWELVE, Word, files_of
 from desk import REASON as NO_BOTTLE
 from desk import Running, payments_of, standings
 
@@ -81,7 +81,7 @@ def large(folder: pathlib.Path, banks: int, debts: int) -> List[Word]:
 
 
 @unittest.skipIf(NO_BOTTLE, NO_BOTTLE)
-class DeskPage(Browsing, Case):
+class DeskPage(Browsing):
     """A case that opens desks in the browser, by default on the twelve banks of the examples."""
 
     def setUp(self) -> None:

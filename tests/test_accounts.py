@@ -11,6 +11,7 @@ import types
 import unittest
 
 from common import PACKAGES, PROGRAM, ROOT, needs
+from desk import account_of
 
 sys.path.insert(0, str(PACKAGES))
 sys.path.append(str(ROOT / "tests/system"))
@@ -56,12 +57,6 @@ const figures = ({ was, is, rest }) => ({ was, is, rest });
 const found = JSON.parse(text).map(([now, before]) => linesOf(now, before).map(figures));
 console.log(JSON.stringify(found));
 """
-
-
-def account_of(base, cleared, bank, made=accounts):
-    """The account of a bank in a state, by a module of accounts."""
-    owes, owed = made.debts_by(base, cleared)
-    return made.account_by(base, cleared, bank, owes, owed.get(bank, []))
 
 
 class Asked:

@@ -5,8 +5,8 @@ import statistics
 import sys
 import unittest
 
-from analyses import AnalysisCase, records
-from common import ROOT, files_of
+from analyses import AnalysisCase
+from common import ROOT, files_of, records
 
 sys.path.insert(0, str(ROOT / "tests/system"))
 import model  # noqa: E402

@@ -400,9 +400,7 @@ class WhoMayRead(Case):
         )
         self.addCleanup(running.stdout.close)
         self.addCleanup(running.stderr.close)
-        deadline = time.monotonic() + 30
-        while not list(place.glob(".part-*/inputs/debts.csv")) and time.monotonic() < deadline:
-            time.sleep(0.02)
+        self.until(lambda: list(place.glob(".part-*/inputs/debts.csv")))
         time.sleep(0.3)
         running.send_signal(signal.SIGHUP)
         self.assertEqual(running.wait(60), 130)

@@ -7,7 +7,6 @@ import shutil
 import signal
 import stat
 import subprocess
-import time
 import unittest
 
 import test_launcher
@@ -59,9 +58,7 @@ class Installing(Case):
         (self.prefix / "bin/clearing").write_text("old\n")
         # The program to install is a pipe that is written late: by then links stand where the next files could go.
         running = self.start()
-        deadline = time.monotonic() + 60
-        while not list(self.prefix.rglob("*.new.*")) and time.monotonic() < deadline:
-            time.sleep(0.005)
+        self.until(lambda: list(self.prefix.rglob("*.new.*")))
         for path in list(self.prefix.rglob("*.new.*")):
             self.assertNotIn(str(running.pid), path.name)
         os.killpg(running.pid, signal.SIGTERM)
@@ -193,12 +190,8 @@ class Ended(Case):
         return running
 
     def begun(self, count):
-        deadline = time.monotonic() + 60
-        while time.monotonic() < deadline:
-            if (self.folder / "begun").exists() and len((self.folder / "begun").read_text().split()) >= count:
-                return
-            time.sleep(0.02)
-        self.fail("the jobs did not begin")
+        begun = self.folder / "begun"
+        self.until(lambda: begun.exists() and len(begun.read_text().split()) >= count)
 
     def test_a_signal_ends_all_jobs_and_what_is_left_is_counted(self):
         jobs = self.file("jobs.tsv", "".join(f"job-{at}\tgen\t{at}\n" for at in range(20)))

@@ -4,7 +4,7 @@ import random
 import sys
 from unittest import mock
 
-from common import ROOT, Case, clearing, tool
+from common import ROOT, Case, clearing, records, tool
 
 sys.path.insert(0, str(ROOT / "tests/system"))
 import model  # noqa: E402
@@ -58,19 +58,15 @@ def altered(name, text):
 
 def model_of(banks, debts, journal):
     """The network and the raises for the plain model. Only of files that are in form."""
-    banks = [model.Bank(name, int(cash), rule, int(outside)) for name, cash, rule, outside in fields_of(banks)]
+    banks = [model.Bank(name, int(cash), rule, int(outside)) for name, cash, rule, outside in records(banks)]
     places = {bank.name: place for place, bank in enumerate(banks)}
     debts = [
-        model.Debt(places[one], places[other], int(cls), int(claim)) for one, other, cls, claim in fields_of(debts)
+        model.Debt(places[one], places[other], int(cls), int(claim)) for one, other, cls, claim in records(debts)
     ]
     seat = {debt[:3]: x for x, debt in enumerate(debts)}
-    lines = [fields for fields in fields_of(journal) if fields[0] != "rounds"]
+    lines = [fields for fields in records(journal) if fields[0] != "rounds"]
     raises = [(int(stamp), seat[places[one], places[other], int(cls)], int(to)) for stamp, one, other, cls, to in lines]
     return model.Net(banks, debts), raises
-
-
-def fields_of(text):
-    return [line.split(",") for line in text.removesuffix("\n").split("\n")[1:]]
 
 
 class Audit(Case):

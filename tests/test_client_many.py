@@ -9,15 +9,11 @@ import time
 import unittest
 from unittest import mock
 
+from clients import network_of
 from common import CHAIN, HUB, ROOT, TWELVE, Case, needs_modules, python_with
 
 import clearing_client as cc
 from clearing_client import Network, Scenario, Scenarios, many, network, texts
-
-
-def of(folder):
-    """The network of an example."""
-    return Network(folder / "banks.csv", folder / "debts.csv")
 
 
 def sums_of(left):
@@ -54,14 +50,14 @@ class SideBySide(Case):
 
     def test_outcomes_are_those_of_stress(self):
         for folder in (CHAIN, HUB, TWELVE):
-            net, scenarios = of(folder), Scenarios.cuts(range(0, 1001, 100))
+            net, scenarios = network_of(folder), Scenarios.cuts(range(0, 1001, 100))
             left = net.stress(scenarios)
             self.assertEqual(tuple(cc.map_stress([net], scenarios)), left.scenarios)
             file = self.file("s.toml", scenarios.to_toml())
             self.assertEqual(tuple(cc.map_stress([net], file)), left.scenarios)
 
     def test_more_scenarios_than_a_file_may_have(self):
-        net = of(CHAIN)
+        net = network_of(CHAIN)
         left = list(cc.map_stress([net], Scenarios.cuts(range(250))))
         self.assertEqual([one.number for one in left], list(range(1, 251)))
         self.assertEqual([one.name for one in left], [f"cut {cut}" for cut in range(250)])
@@ -74,7 +70,7 @@ class SideBySide(Case):
             )
 
     def test_a_fault_comes_in_its_place_and_ends_it(self):
-        nets = [of(CHAIN), Network([("A", 1, "none")], []), of(HUB)]
+        nets = [network_of(CHAIN), Network([("A", 1, "none")], []), network_of(HUB)]
         for call in (cc.map_stress, cc.map_outcomes):
             left = call(nets, Scenarios.cuts([1]), jobs=2)
             self.assertIsNotNone(next(left))
@@ -88,7 +84,7 @@ class SideBySide(Case):
             f'touch {self.folder}/$$; n=0; while [ $(ls {self.folder} | grep -c "^[0-9]*$") -lt 2 ]; do sleep 0.02; '
             f'n=$((n + 1)); [ $n -lt 500 ] || exit 77; done; exec {os.environ["CLEARING"]} "$@"'
         )
-        self.assertEqual(len(list(cc.map_stress([of(CHAIN), of(HUB)], Scenarios.cuts([1]), jobs=2))), 2)
+        self.assertEqual(len(list(cc.map_stress([network_of(CHAIN), network_of(HUB)], Scenarios.cuts([1]), jobs=2))), 2)
 
     def test_few_runs_begin_ahead_of_what_is_taken(self):
         taken = []
@@ -96,7 +92,7 @@ class SideBySide(Case):
         def nets():
             for at in range(100):
                 taken.append(at)
-                yield of(CHAIN)
+                yield network_of(CHAIN)
 
         for call in (cc.map_stress, cc.map_outcomes):
             taken.clear()
@@ -131,7 +127,7 @@ class SideBySide(Case):
 class Sums(Case):
     def test_sums_are_those_of_stress(self):
         for folder in (CHAIN, HUB, TWELVE):
-            net, scenarios = of(folder), Scenarios.cuts(range(0, 1001, 13))
+            net, scenarios = network_of(folder), Scenarios.cuts(range(0, 1001, 13))
             (left,), wanted = cc.map_outcomes([net], scenarios), sums_of(net.stress(scenarios))
             self.assertEqual([tuple(one) for one in left.scenarios], wanted[0])
             self.assertEqual([tuple(one)[1:] for one in left.banks], wanted[1])
@@ -145,7 +141,7 @@ class Sums(Case):
             Scenario("A loses more than it has", losses={"A": 8}),
             Scenario("half", 500),
         ]
-        (left,) = cc.map_outcomes([of(CHAIN)], scenarios)
+        (left,) = cc.map_outcomes([network_of(CHAIN)], scenarios)
         self.assertEqual(
             [tuple(one) for one in left.scenarios],
             [
@@ -165,11 +161,11 @@ class Sums(Case):
         self.assertEqual(cc.read(left.text), left)
 
     def test_networks_of_one_kind_are_kept_apart(self):
-        nets = [of(CHAIN), of(CHAIN), of(HUB)]
+        nets = [network_of(CHAIN), network_of(CHAIN), network_of(HUB)]
         left = list(cc.map_outcomes(nets, Scenarios.cuts(range(60)), jobs=3))
         self.assertEqual([len(one.scenarios) for one in left], [60, 60, 60])
         self.assertEqual(left[0], left[1])
-        (left,) = cc.map_outcomes([of(CHAIN)], [])
+        (left,) = cc.map_outcomes([network_of(CHAIN)], [])
         self.assertEqual(
             (len(left.scenarios), [tuple(one) for one in left.banks]), (0, [("A", 0, 0), ("B", 0, 0), ("C", 0, 0)])
         )
@@ -225,7 +221,7 @@ class Text(unittest.TestCase):
 
 class Executors(Case):
     def test_an_executor_that_is_given_runs_them_and_goes_on(self):
-        net, scenarios = of(TWELVE), Scenarios.cuts(range(0, 1001, 200))
+        net, scenarios = network_of(TWELVE), Scenarios.cuts(range(0, 1001, 200))
         whole = list(cc.map_stress([net], scenarios))
         for kind in (concurrent.futures.ThreadPoolExecutor, concurrent.futures.ProcessPoolExecutor):
             with kind(2) as executor:
@@ -246,8 +242,8 @@ class Executors(Case):
             return here
 
         with mock.patch.object(many, "outcomes_in", told(parse)), mock.patch.object(network, "parse", told(read)):
-            list(cc.map_stress([of(CHAIN), of(HUB)], Scenarios.cuts([1]), jobs=2))
-            list(cc.map_outcomes([of(CHAIN), of(HUB)], Scenarios.cuts([1]), jobs=2))
+            list(cc.map_stress([network_of(CHAIN), network_of(HUB)], Scenarios.cuts([1]), jobs=2))
+            list(cc.map_outcomes([network_of(CHAIN), network_of(HUB)], Scenarios.cuts([1]), jobs=2))
         numbers = seen.read_text().split()
         self.assertEqual(len(numbers), 4)
         self.assertNotIn(str(os.getpid()), numbers)

@@ -9,7 +9,7 @@ import sys
 import unittest
 import zipfile
 
-from common import CHAIN, PROGRAM, ROOT, Case, files_of, printed
+from common import CHAIN, PROGRAM, ROOT, Case, files_of
 from test_client_install import OFFLINE, has_venv
 
 sys.path.insert(0, str(ROOT / "python"))
@@ -88,7 +88,7 @@ class Wheel(Case):
         place, run = self.installed()
         for words in (["clear", *FILES, "--workers", 1], ["defaults", *FILES, "--workers", 1]):
             done = run(place / "bin/clearing", *words)
-            self.assertEqual((done.returncode, done.stdout.decode(), done.stderr), (0, printed(*words), b""))
+            self.assertEqual((done.returncode, done.stdout.decode(), done.stderr), (0, self.printed(*words), b""))
         done = run(place / "bin/clearing", "--help")
         self.assertEqual((done.returncode, done.stdout), (2, b""))
         # The package and the tools find it there, before any other but what CLEARING names.
@@ -104,7 +104,7 @@ class Wheel(Case):
         (packed,) = place.glob("lib/python3*/site-packages/clearing_client/bin/clearing")
         self.assertEqual(done.stdout.decode(), f"{packed}\n" * 2, done.stderr)
         done = run(place / "bin/clearing-breaking", *FILES)
-        self.assertEqual((done.returncode, done.stdout.decode()), (0, printed("breaking", *FILES)), done.stderr)
+        self.assertEqual((done.returncode, done.stdout.decode()), (0, self.printed("breaking", *FILES)), done.stderr)
         # Each command tells its words.
         commands = sorted(path.name for path in (place / "bin").glob("clearing-*"))
         self.assertEqual(len(commands), len(list((ROOT / "bin").iterdir())))
@@ -117,7 +117,7 @@ class Wheel(Case):
         self.file("jobs.tsv", f"a\t{line}\nb\t{line}\n")
         done = run(place / "bin/clearing-many", "run", "jobs.tsv", "results")
         self.assertEqual((done.returncode, done.stdout, done.stderr), (0, b"2 done, 0 failed\n", b""))
-        self.assertEqual((self.folder / "results/b.out").read_text(), printed("clear", *FILES, "--workers", 1))
+        self.assertEqual((self.folder / "results/b.out").read_text(), self.printed("clear", *FILES, "--workers", 1))
         done = run(place / "bin/clearing-many", "slurm", "jobs.tsv", "results")
         self.assertIn(
             f"CLEARING={shlex.quote(str(packed))} exec {shlex.quote(str(place / 'bin/clearing-many'))} one ".encode(),
@@ -135,9 +135,11 @@ class Wheel(Case):
         for number, named in enumerate(("clearing", "", f"{place}/bin/clearing")):
             more = {"PATH": path, "CLEARING": named}
             done = run(place / "bin/clearing", *clears, **more)
-            self.assertEqual((done.returncode, done.stdout.decode(), done.stderr), (0, printed(*clears), b""), named)
+            answer = (done.returncode, done.stdout.decode(), done.stderr)
+            self.assertEqual(answer, (0, self.printed(*clears), b""), named)
             done = run(place / "bin/clearing-breaking", *FILES, **more)
-            self.assertEqual((done.returncode, done.stdout.decode()), (0, printed("breaking", *FILES)), done.stderr)
+            breaking = self.printed("breaking", *FILES)
+            self.assertEqual((done.returncode, done.stdout.decode()), (0, breaking), done.stderr)
             # The checksum of the program is that of what was built.
             code = "from clearing_client import find_program; from clearing_tools.evidence.versions import program_sum"
             done = run(

@@ -4,18 +4,12 @@ import re
 import unittest
 
 from common import TWELVE, clearing, files_of
-from desk import DeskCase
+from desk import DeskCase, account_of
 
 from clearing_client.case import Case as Folder
-from clearing_tools.desk import account, state as states
+from clearing_tools.desk import state as states
 from clearing_tools.desk.runs import Desk as Table, Runs, base_of
 from clearing_tools.runner import ToolError
-
-
-def account_of(base, cleared, bank):
-    """The account of a bank in a state."""
-    owes, owed = account.debts_by(base, cleared)
-    return account.account_by(base, cleared, bank, owes, owed.get(bank, []))
 
 
 class Accounts(DeskCase):

@@ -387,9 +387,7 @@ class Whole(EvidenceCase):
             )
             self.addCleanup(running.stdout.close)
             self.addCleanup(running.stderr.close)
-            deadline = time.monotonic() + 30
-            while not list(place.glob(".part-*/inputs/debts.csv")) and time.monotonic() < deadline:
-                time.sleep(0.02)
+            self.until(lambda: list(place.glob(".part-*/inputs/debts.csv")))
             time.sleep(0.3)
             begun = time.monotonic()
             running.send_signal(number)

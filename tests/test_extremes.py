@@ -3,16 +3,13 @@ raises, workers, scenarios and words, late rows, no debts. Each run ends with 0,
 tests/system/model.py, or known beforehand."""
 import pathlib
 import random
-import sys
 import unittest
-from typing import List, Optional, Tuple
+from typing import List, Tuple
 from unittest import mock
 
-from common import ROOT, Case, Word
-
-sys.path.insert(0, str(ROOT / "tests/system"))
-import model  # noqa: E402
-from networks import RULES, generated, judge_compression, judge_journal, scenarios_toml  # noqa: E402
+from common import Word
+from compared import Compared, model
+from networks import RULES, generated, judge_compression, judge_journal, scenarios_toml
 
 Bank, Debt, Net, Scenario = model.Bank, model.Debt, model.Net, model.Scenario
 CASH, OUTSIDE, CLAIM = 10**12, 10**11, 10**6
@@ -119,20 +116,7 @@ def late(text: str, size: int) -> str:
     return text.replace("\n", "\n" + ",\n" * (room // 2), 1) + "\n" * (room % 2)
 
 
-class Extremes(Case):
-    def write(self, net: Net, second: bool = True) -> None:
-        """Writes the two files of a network, and names them for the runs that follow."""
-        banks, debts = model.banks_text(net, second), model.debts_text(net)
-        self.files: List[Word] = ["--banks", self.file("banks.csv", banks), "--debts", self.file("debts.csv", debts)]
-
-    def same(self, wanted: str, task: str, *more: Word, files: Optional[List[Word]] = None) -> None:
-        """Compares long texts without a long message, and goes on."""
-        with self.subTest(task=task, more=[str(word)[:80] for word in more]):
-            told = self.printed(task, *(self.files if files is None else files), *more)
-            if told != wanted:
-                lines = [pair for pair in zip(told.split("\n"), wanted.split("\n")) if pair[0] != pair[1]]
-                self.fail(f"{task}: {len(told)} bytes in place of {len(wanted)}; first {lines[:1]}")
-
+class Extremes(Compared):
     def journals(self, net: Net, low: List[int], plans: List[List[str]]) -> None:
         """The journal of each plan is lawful, ends at the least payments, and is replayed."""
         payments = model.payments_text(net, low)

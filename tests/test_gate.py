@@ -504,10 +504,7 @@ setsid sh -c 'trap "" TERM INT HUP; while :; do /bin/sleep 0.2; done' marked-wor
                 start_new_session=True,
             )
             self.addCleanup(going.wait)
-            deadline = time.monotonic() + 60
-            while (not self.calls.read_text() or len(self.going()) < 3) and time.monotonic() < deadline:
-                time.sleep(0.1)
-            self.assertGreaterEqual(len(self.going()), 3)
+            self.until(lambda: self.calls.read_text() and len(self.going()) >= 3)
             going.send_signal(number)
             self.assertEqual(going.wait(timeout=60), 128 + number)
             self.assertEqual(self.going(), [], signal.Signals(number).name)

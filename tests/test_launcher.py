@@ -307,17 +307,12 @@ class Launcher(Case):
             encoding="utf-8",
             start_new_session=True,
         )
-        deadline = time.monotonic() + 60
-        while not self.times.read_text() and time.monotonic() < deadline:
-            time.sleep(0.1)
+        self.until(self.times.read_text)
         time.sleep(0.5)
         return going
 
     def ends(self):
-        deadline = time.monotonic() + 10
-        while self.is_running() and time.monotonic() < deadline:
-            time.sleep(0.1)
-        self.assertFalse(self.is_running())
+        self.until(lambda: not self.rt_runs(), 10)
 
     def test_an_interrupt_ends_the_build(self):
         for number in (signal.SIGTERM, signal.SIGINT, signal.SIGHUP):
@@ -360,7 +355,7 @@ class Launcher(Case):
         going.wait(timeout=20)
         self.ends()
 
-    def is_running(self):
+    def rt_runs(self):
         return any(str(self.rt).encode() in self.text_of(path) for path in pathlib.Path("/proc").glob("[0-9]*/cmdline"))
 
     @staticmethod

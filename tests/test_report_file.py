@@ -14,11 +14,11 @@ import socket
 import subprocess
 import time
 
-from common import PACKAGES, PROGRAM, ROOT, clearing, tool
+from common import PACKAGES, PROGRAM, ROOT, clearing, is_running, tool
 from clearing_tools.drawing import web
 from clearing_tools.labels import shown
 from browser import D3
-from reports import PYTHON, TWELVE, Reader, Report, files_of, is_running, odd_net
+from reports import PYTHON, TWELVE, Reader, Report, files_of, odd_net
 
 
 class TheFile(Report):
@@ -317,9 +317,7 @@ class TheFile(Report):
                 stderr=subprocess.PIPE,
             )
             self.addCleanup(running.kill)
-            deadline = time.monotonic() + 30
-            while not told.read_text().endswith("\n") and time.monotonic() < deadline:
-                time.sleep(0.02)
+            self.until(lambda: told.read_text().endswith("\n"))
             begun = time.monotonic()
             running.send_signal(number)
             output, messages = running.communicate(timeout=30)
@@ -328,7 +326,7 @@ class TheFile(Report):
             self.assertEqual(list(place.iterdir()), [])
             self.assertFalse((self.folder / "r.html").exists())
             for process in told.read_text().split():
-                self.assertFalse(is_running(process), (task, number))
+                self.until(lambda: not is_running(process), 5)
 
     def test_an_output_that_is_not_of_the_form_is_said(self):
         script = f'[ "$1" = "$TASK" ] || exec {shlex.quote(PROGRAM)} "$@"\nprintf "$SAID"\n'

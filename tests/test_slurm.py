@@ -5,8 +5,9 @@ import socket
 import subprocess
 import time
 import unittest
+from typing import Callable, Optional
 
-from common import ROOT, Case, needs
+from common import ROOT, Case, comes, needs
 
 JOBS = 1500
 PROGRAM = '#!/bin/sh\n[ "$1" != fail ] || exit 4\nprintf "%s\\n" "$@"\n'
@@ -81,13 +82,11 @@ class Slurm(Case):
         self.addCleanup(process.wait)
         self.addCleanup(process.terminate)
 
-    def until(self, holds, seconds=600):
-        ends = time.monotonic() + seconds
-        while not holds():
-            if time.monotonic() > ends:
-                told = {path.name: path.read_text(errors="replace")[-1000:] for path in self.folder.glob("*.told")}
-                self.fail(f"not within {seconds} seconds: {told}")
-            time.sleep(0.1)
+    def until(self, holds: Callable[[], object], seconds: Optional[float] = 600) -> None:
+        """Waits for something to hold, which fails with what each daemon told where it does not."""
+        if not comes(holds, seconds or self.WAIT):
+            told = {path.name: path.read_text(errors="replace")[-1000:] for path in self.folder.glob("*.told")}
+            self.fail(f"not within {seconds} seconds: {told}")
 
     def run_here(self, *words):
         return subprocess.run(
