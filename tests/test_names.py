@@ -6,10 +6,12 @@ somewhere in the repository.
 
 `python3 test_names.py --list` prints the names of code that each page cites.
 """
+import collections
 import functools
 import re
 import sys
 import unittest
+from typing import List
 
 from common import ROOT, tool
 
@@ -58,7 +60,12 @@ EMPTY_NAMES = {"few", "one", "others", "same", "some"}
 def documents():
     return [
         path
-        for path in [*sorted(ROOT.glob("*.md")), *sorted((ROOT / "docs").glob("*.md")), ROOT / "examples/README.md"]
+        for path in [
+            *sorted(ROOT.glob("*.md")),
+            *sorted((ROOT / "docs").glob("*.md")),
+            ROOT / "examples/README.md",
+            ROOT / "tests/README.md",
+        ]
         if path.is_file()
     ]
 
@@ -291,6 +298,22 @@ def public_clauses(text):
             yield function, clause[1]
 
 
+def miscounted(names: List[str], text: str) -> List[str]:
+    """The names that a text does not have in back quotes once."""
+    count = collections.Counter(QUOTED.findall(text))
+    return sorted(name for name in names if count[name] != 1)
+
+
+def unknown_modules(text: str) -> List[str]:
+    """The modules of tests that a text names and that are not there."""
+    return [name for name in QUOTED.findall(text) if re.fullmatch(r"test_\w+", name) and not is_module(name)]
+
+
+def is_module(name: str) -> bool:
+    """Whether a module of tests has a name."""
+    return (ROOT / "tests" / f"{name}.py").is_file()
+
+
 class Names(unittest.TestCase):
     def each(self, what):
         for path in documents():
@@ -341,6 +364,15 @@ class Names(unittest.TestCase):
             missing_paths(ROOT / "README.md", "[a](docs/GLOSSARY.md#one-unit) [b](docs/GLOSSARY.md#two-units)"),
             ["docs/GLOSSARY.md#two-units"],
         )
+
+    def test_the_page_of_the_tests_names_each_module_and_script_once(self):
+        modules = [path.stem for path in (ROOT / "tests").glob("*.py") if path.name not in ("run.py", "wheel.py")]
+        scripts = [path.name for path in (ROOT / "tests/system").iterdir() if path.suffix in (".py", ".sh", ".c")]
+        text = (ROOT / "tests/README.md").read_text(encoding="utf-8")
+        self.assertEqual(miscounted([*modules, *scripts], text), [])
+        self.assertEqual(miscounted(["a", "b", "c"], "`a` and `b`, but `b` alone"), ["b", "c"])
+        self.assertEqual(unknown_modules(text), [])
+        self.assertEqual(unknown_modules("`test_names` and `test_nobody`"), ["test_nobody"])
 
     def test_the_laws_that_are_tried_at_networks_are_counted(self):
         laws = sum(
