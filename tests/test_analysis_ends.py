@@ -7,6 +7,7 @@ import sys
 import threading
 import time
 import unittest.mock
+from typing import Any
 
 from analyses import ASKED, AnalysisCase
 from common import PROGRAM, ROOT, comes, is_running
@@ -119,7 +120,7 @@ else:
 
         asking, started, begun, ended = runner.ProgramRuns(), threading.Event(), [], []
 
-        def work(item):
+        def work(item: Any) -> None:
             if item == "fault":
                 started.wait(10)
                 raise Fault
@@ -135,7 +136,7 @@ else:
         asking, sent = runner.ProgramRuns(), time.monotonic()
         begun = self.folder / "begun"
 
-        def run(item):
+        def run(item: Any) -> None:
             if item == "fault":
                 while not begun.exists():
                     time.sleep(0.01)

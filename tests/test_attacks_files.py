@@ -13,8 +13,9 @@ import threading
 import time
 import unittest
 import unittest.mock
+from typing import Any, Iterator, List
 
-from common import CHAIN, HUB, PROGRAM, ROOT, Case, files_of, tool
+from common import CHAIN, HUB, PROGRAM, ROOT, Case, Word, files_of, tool
 
 from clearing_tools import files  # noqa: E402
 from clearing_tools.evidence import shock  # noqa: E402
@@ -24,12 +25,12 @@ ANOTHER = 54321
 FILES = files_of(HUB)
 
 
-def writers():
+def writers() -> Iterator[Any]:
     """The ways in which a tool writes a file of a name."""
     yield lambda name: files.write_all({name: "new\n"})
     yield lambda name: files.put("new\n", name)
 
-    def by_shock(name):
+    def by_shock(name: pathlib.Path) -> None:
         try:
             shock.write(os.fspath(name), b"new\n")
         except shock.ScenarioError as fault:
@@ -38,12 +39,12 @@ def writers():
     yield by_shock
 
 
-def permitted(path):
+def permitted(path: pathlib.Path) -> int:
     return stat.S_IMODE(path.stat().st_mode)
 
 
 class Planted(Case):
-    def others(self, path):
+    def others(self, path: pathlib.Path) -> None:
         """Has a link or a pipe be another user's."""
         if os.geteuid() == 0:
             os.chown(path, ANOTHER, ANOTHER, follow_symlinks=False)
@@ -100,7 +101,7 @@ class Planted(Case):
         victim = self.file("victim", "kept\n")
         target, real = self.file("target", "old\n"), os.link
 
-        def planted(source, name, **more):
+        def planted(source: Any, name: Any, **more: Any) -> Any:
             os.symlink(victim, name, dir_fd=more["dst_dir_fd"])
             return real(source, name, **more)
 
@@ -109,7 +110,7 @@ class Planted(Case):
                 files.write_all({target: "new\n"})
         self.assertEqual((victim.read_text(), target.read_text()), ("kept\n", "old\n"))
 
-    def exchange(self, way, victim, until):
+    def exchange(self, way: pathlib.Path, victim: pathlib.Path, until: Any) -> None:
         """Has a folder be a link of another user to a victim's, and a folder of his, in turn, as fast as can be."""
         link = self.folder / "link-aside"
         link.symlink_to(victim)
@@ -130,7 +131,7 @@ class Planted(Case):
             between = "mask_of" if hasattr(files, "mask_of") else "mode_of_new"
             real, done = getattr(files, between), []
 
-            def exchanged(*words):
+            def exchanged(*words: Any) -> Any:
                 if not done:
                     done.append(way.rename(self.folder / "aside"))
                     way.symlink_to(victim)
@@ -313,7 +314,7 @@ class BelowDev(unittest.TestCase):
 
 
 class WhoMayRead(Case):
-    def private(self):
+    def private(self) -> List[Word]:
         banks, debts = self.file("banks.csv", (HUB / "banks.csv").read_bytes()), self.file(
             "debts.csv", (HUB / "debts.csv").read_bytes()
         )

@@ -8,9 +8,10 @@ import signal
 import stat
 import subprocess
 import unittest
+from typing import Any
 
 import test_launcher
-from common import HUB, PROGRAM, ROOT, Case, files_of
+from common import HUB, PROGRAM, ROOT, Case, Word, files_of
 
 FILES = files_of(HUB)
 
@@ -21,7 +22,7 @@ class Installing(Case):
         self.script = self.executable("program", 'echo "$*"\n')
         self.prefix = self.folder / "prefix"
 
-    def start(self, mask=0o022, **more):
+    def start(self, mask: int = 0o022, **more: Any) -> "subprocess.Popen[str]":
         environment = {**os.environ, "CLEARING": str(self.script)}
         return subprocess.Popen(
             [str(ROOT / "tools/install.sh"), str(self.prefix)],
@@ -164,7 +165,7 @@ class Importing(Case):
 class Ended(Case):
     """A request to end ends what was begun, and leaves nothing that runs."""
 
-    def running(self):
+    def running(self) -> int:
         """How many runs of the test's program there are."""
         found = 0
         for path in pathlib.Path("/proc").glob("[0-9]*/cmdline"):
@@ -172,7 +173,7 @@ class Ended(Case):
                 found += str(self.folder).encode() + b"/clearing" in path.read_bytes()
         return found
 
-    def start(self, *words):
+    def start(self, *words: Word) -> "subprocess.Popen[str]":
         self.program('echo begun >>"$BEGUN"\nwhile :; do sleep 0.2; done\n')
         environment = {**os.environ, "BEGUN": str(self.folder / "begun")}
         environment.pop("MANY_SESSION", None)
@@ -189,7 +190,7 @@ class Ended(Case):
         self.addCleanup(running.stderr.close)
         return running
 
-    def begun(self, count):
+    def begun(self, count: int) -> None:
         begun = self.folder / "begun"
         self.until(lambda: begun.exists() and len(begun.read_text().split()) >= count)
 
@@ -238,7 +239,7 @@ class Ended(Case):
 class Prefixes(Installing):
     locals().update({name: None for name in vars(Installing) if name.startswith("test_")})
 
-    def run_it(self, prefix):
+    def run_it(self, prefix: Word) -> "subprocess.CompletedProcess[str]":
         return subprocess.run(
             [str(ROOT / "tools/install.sh"), str(prefix)],
             env={**os.environ, "CLEARING": str(self.script)},

@@ -6,6 +6,7 @@ import tempfile
 import threading
 import time
 import unittest
+from typing import Any, Callable, Optional, Tuple
 
 from common import CHAIN, Case
 
@@ -19,7 +20,7 @@ MANY = [(f"B{n}", 1, "adams") for n in range(201)]
 
 
 class Refused(Case):
-    def refused(self, call):
+    def refused(self, call: Callable[[], object]) -> Tuple[Any, ...]:
         with self.assertRaises(cc.RefusedError) as caught:
             call()
         fault = caught.exception
@@ -130,7 +131,9 @@ class Refused(Case):
 
 
 class Statuses(Case):
-    def raised(self, kind, script=None, call=lambda net: net.clear()):
+    def raised(
+        self, kind: Any, script: Optional[str] = None, call: Callable[[Any], object] = lambda net: net.clear()
+    ) -> Any:
         if script is not None:
             self.program(script)
         with self.assertRaises(kind) as caught:
@@ -178,7 +181,7 @@ class Statuses(Case):
         text = "debtor,creditor,class,claim,paid\\nA,B,1,10,7"
         self.raised(cc.TextError, f"printf '{text}'")
 
-    def without_program(self, net):
+    def without_program(self, net: Network) -> None:
         os.environ["CLEARING"] = str(self.folder / "none")
         net.clear()
 
@@ -193,7 +196,7 @@ class Statuses(Case):
     def test_an_interrupt_ends_the_run(self):
         self.program(f"echo $$ > {self.folder}/pid; exec sleep 60")
 
-        def interrupt():
+        def interrupt() -> None:
             while not (self.folder / "pid").exists() or not (self.folder / "pid").read_text().strip():
                 time.sleep(0.01)
             # Not before the run waits for the program: a signal just before would be seen only when that ends.

@@ -7,6 +7,7 @@ import subprocess
 import sys
 import time
 import unittest
+from typing import Any, Iterator, List, Tuple
 from unittest import mock
 
 from clients import network_of
@@ -16,7 +17,7 @@ import clearing_client as cc
 from clearing_client import Network, Scenario, Scenarios, many, network, texts
 
 
-def sums_of(left):
+def sums_of(left: Any) -> Tuple[Any, Any]:
     """The sums of what `stress` leaves, from its standings."""
     scenarios = [
         (
@@ -89,7 +90,7 @@ class SideBySide(Case):
     def test_few_runs_begin_ahead_of_what_is_taken(self):
         taken = []
 
-        def nets():
+        def nets() -> Iterator[Network]:
             for at in range(100):
                 taken.append(at)
                 yield network_of(CHAIN)
@@ -185,7 +186,7 @@ class Text(unittest.TestCase):
         "cash,7\n",
     ]
 
-    def read(self, text):
+    def read(self, text: str) -> List[Any]:
         """What each way reads, or the fault that it raises."""
         told = []
         for read in (
@@ -233,8 +234,8 @@ class Executors(Case):
     def test_what_is_parsed_is_parsed_in_other_processes(self):
         seen, parse, read = self.folder / "seen", many.outcomes_in, network.parse
 
-        def told(parser):
-            def here(*words):
+        def told(parser: Any) -> Any:
+            def here(*words: Any) -> Any:
                 with open(seen, "a", encoding="utf-8") as file:
                     file.write(f"{os.getpid()}\n")
                 return parser(*words)

@@ -2,9 +2,10 @@
 import os
 import pathlib
 import unittest
+from typing import Any, Iterator, List, Tuple
 
 from clients import network_of
-from common import CHAIN, EXAMPLES, HUB, ROOT, TWELVE, Case, files_of, needs_checkout
+from common import CHAIN, EXAMPLES, HUB, ROOT, TWELVE, Case, Word, files_of, needs_checkout
 
 import clearing_client as cc
 from clearing_client import Network, Scenario, Scenarios, TableError
@@ -14,7 +15,7 @@ DEBTS = [("A", "B", 1, 10), ("B", "C", 1, 9)]
 
 
 class Tasks(Case):
-    def answers(self, net, folder):
+    def answers(self, net: Network, folder: pathlib.Path) -> Iterator[Tuple[Any, List[Word]]]:
         """What each task answers, and what the program prints for the same words."""
         files, journal = files_of(folder), net.clear(workers=1, journal=True).journal
         written = self.file("journal.csv", self.printed("clear", *files, "--workers", 1, "--show", "journal"))
@@ -119,7 +120,7 @@ class Tasks(Case):
 
 
 class Forms(Case):
-    def same(self, *networks):
+    def same(self, *networks: Network) -> None:
         """Networks of which the program reads the same."""
         for net in networks:
             self.assertEqual(net.check().text, Network(BANKS, DEBTS).check().text)
@@ -172,7 +173,7 @@ class Forms(Case):
         from fractions import Fraction
 
         class Index:
-            def __index__(self):
+            def __index__(self) -> int:
                 return 50
 
         for fifty in (50, 50.0, Decimal("50.0"), Index()):

@@ -1,5 +1,7 @@
 """The parser takes every text of the program apart without loss, and no other text."""
+import pathlib
 import unittest
+from typing import Any, Iterator, List, Sequence, Tuple
 
 from common import CHAIN, EXAMPLES, HUB, TWELVE, Case, files_of
 
@@ -25,7 +27,7 @@ from clearing_client.results import (
 )
 
 
-def lines(table, without=()):
+def lines(table: Any, without: Sequence[str] = ()) -> List[str]:
     """The lines of a table, as the program has them."""
     keep = [name for name in table.columns if name not in without]
     word = {True: "yes", False: "no"}
@@ -33,7 +35,7 @@ def lines(table, without=()):
     return [",".join(keep), *map(",".join, rows)]
 
 
-def standings(result, outside):
+def standings(result: Any, outside: bool) -> List[str]:
     """The lines of standings with their sums."""
     total, without = list(result.total), [] if outside else ["outside_paid"]
     if not outside:
@@ -41,10 +43,10 @@ def standings(result, outside):
     return [*lines(result.standings, without), "total," + ",".join(map(str, total[:-1])), f"cash,{total[-1]}"]
 
 
-def text_of(result, outside):
+def text_of(result: Any, outside: bool) -> str:
     """The text of a result, made from its tables alone."""
 
-    def banks(table):
+    def banks(table: Any) -> List[str]:
         return lines(table, () if outside else ("outside",))
 
     if isinstance(result, Check):
@@ -81,7 +83,7 @@ def text_of(result, outside):
 
 
 class Texts(Case):
-    def texts(self, folder):
+    def texts(self, folder: pathlib.Path) -> Iterator[Tuple[str, str]]:
         """What each task prints for an example."""
         files = files_of(folder)
         journal = self.file("journal.csv", self.printed("clear", *files, "--show", "journal"))

@@ -8,8 +8,9 @@ import subprocess
 import sys
 import unittest
 import zipfile
+from typing import Any, Tuple
 
-from common import CHAIN, PROGRAM, ROOT, Case, files_of
+from common import CHAIN, PROGRAM, ROOT, Case, Word, files_of
 from test_client_install import OFFLINE, has_venv
 
 sys.path.insert(0, str(ROOT / "python"))
@@ -18,7 +19,7 @@ import build  # noqa: E402
 FILES = files_of(CHAIN)
 
 
-def executable():
+def executable() -> pathlib.Path:
     """The file that is the tested program itself, where that is known."""
     built = ROOT / "crates/clear_main/out/clear_main"
     named = pathlib.Path(os.path.realpath(PROGRAM))
@@ -26,7 +27,7 @@ def executable():
 
 
 class Wheel(Case):
-    def wheel(self, program):
+    def wheel(self, program: Word) -> pathlib.Path:
         done = subprocess.run(
             [sys.executable, "-IB", str(ROOT / "python/build.py"), str(self.folder), str(program)],
             capture_output=True,
@@ -66,7 +67,7 @@ class Wheel(Case):
         before = name.read_bytes()
         self.assertEqual(self.wheel(self.folder / "program").read_bytes(), before)
 
-    def installed(self):
+    def installed(self) -> Tuple[pathlib.Path, Any]:
         """A new environment with the wheel of the tested program, and what runs a command in a small environment."""
         program = executable()
         if program.read_bytes()[:4] != b"\x7fELF":
@@ -76,7 +77,7 @@ class Wheel(Case):
             done = subprocess.run(words, env=OFFLINE, capture_output=True, encoding="utf-8")
             self.assertEqual(done.returncode, 0, done.stdout + done.stderr)
 
-        def run(*words, **more):
+        def run(*words: Word, **more: Any) -> "subprocess.CompletedProcess[bytes]":
             environment = {"PATH": "/usr/bin:/bin", "HOME": str(self.folder), **more}
             given = {"cwd": self.folder, "env": environment, "stdin": subprocess.DEVNULL, "capture_output": True}
             return subprocess.run([str(word) for word in words], timeout=120, **given)

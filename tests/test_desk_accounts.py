@@ -2,6 +2,7 @@
 import random
 import re
 import unittest
+from typing import Tuple
 
 from common import TWELVE, clearing, files_of
 from desk import DeskCase, account_of
@@ -52,7 +53,7 @@ class Accounts(DeskCase):
         self.assertGreater(lacking, 300)
         self.assertGreater(whole, lacking + 300)
 
-    def drawn(self, chosen):
+    def drawn(self, chosen: random.Random) -> Tuple[str, str]:
         """The lines of a network drawn at random: of up to twelve banks, some of which owe something outside, in up
         to three classes."""
         names = [f"B{at}" for at in range(chosen.randrange(2, 13))]

@@ -86,7 +86,7 @@ class Changes(DeskPage):
             shown[number] = self.picture()
         self.assertEqual(len({tuple(titles) for titles in shown.values()}), 4)
 
-        def is_at(number):
+        def is_at(number: int) -> None:
             self.until_state(number)
             self.until(lambda: self.picture() == shown[number])
 

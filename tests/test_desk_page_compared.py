@@ -1,8 +1,10 @@
 """States and cases side by side on the desk's page, banks that one unit decides, and the source of each figure."""
 import csv
 import io
+import pathlib
 import unittest
 from xml.etree import ElementTree
+from typing import Any
 
 from common import ROOT, TWELVE, files_of
 from desk import payments_of, standings
@@ -23,7 +25,7 @@ DRAWN = """return createImageBitmap(given.at(-1)).then(bitmap => {
 
 
 class Compared(DeskPage):
-    def shock(self, cut):
+    def shock(self, cut: int) -> pathlib.Path:
         """A file of one scenario that cuts all cash."""
         return self.file(f"cut-{cut}.toml", f'[[scenario]]\nname = "s"\ncut = {cut}\n')
 
@@ -129,7 +131,7 @@ class Compared(DeskPage):
             " is”. One unit of account is EUR 1,000."
         )
 
-        def taken(key):
+        def taken(key: str) -> Any:
             self.js(
                 "given.length = 0; given.name = null; document.querySelector(`[data-file='${arguments[0]}']`).click()",
                 key,

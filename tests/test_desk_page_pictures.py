@@ -6,7 +6,7 @@ import re
 import statistics
 import time
 import unittest
-from typing import List, Tuple
+from typing import Any, List, Tuple
 
 from common import TWELVE, files_of
 from desk_page import DeskPage, large, strip
@@ -22,7 +22,7 @@ LONG_LABELS = {
 }
 
 
-def spent_by(process):
+def spent_by(process: int) -> float:
     """The seconds that a process and its ended children have had of the processors."""
     fields = pathlib.Path(f"/proc/{process}/stat").read_bytes().rpartition(b")")[2].split()
     return sum(map(int, fields[11:15])) / TICKS
@@ -52,7 +52,7 @@ class Pictures(DeskPage):
         self.until(lambda: not self.js("return document.getElementById('play')"))
         time.sleep(2)
 
-    def played(self):
+    def played(self) -> List[str]:
         """What the drawing that the journal plays in says of each debt."""
         return sorted(map(strip, self.texts("#journal-picture [data-flow] > title")))
 
@@ -189,7 +189,7 @@ class Pictures(DeskPage):
                 self.driver.get("about:blank")
                 self.desk.end()
 
-    def measured(self, times):
+    def measured(self, times: int) -> Tuple[Any, Any]:
         """For some changes of the cut, the milliseconds from each to its picture, and those of the processors."""
         clock, spent = [], []
         for number in range(1, times + 1):
@@ -201,7 +201,7 @@ class Pictures(DeskPage):
             spent.append(1000 * (spent_by(self.desk.process.pid) + self.page_time() - before))
         return clock, spent
 
-    def page_time(self):
+    def page_time(self) -> Any:
         """The seconds that the page has had of the processor."""
         return {part["name"]: part["value"] for part in self.run_of("Performance.getMetrics")["metrics"]}[
             "TaskDuration"

@@ -3,10 +3,10 @@ import pathlib
 import random
 import time
 import unittest
-from typing import Dict, List
+from typing import Any, Dict, List, Optional, Tuple
 
 from common import TWELVE, files_of, records
-from desk import SCENARIOS, DeskCase, standings, wrapped
+from desk import SCENARIOS, DeskCase, Running, standings, wrapped
 
 from clearing_client import Network, unsteady
 from clearing_client.case import Case as Folder
@@ -61,7 +61,7 @@ class Questions(DeskCase):
         falls = {names[int(at)]: [names[other] for other in of] for at, of in ruins["falls"].items()}
         self.assertEqual(falls, others)
 
-    def broken(self, desk, state):
+    def broken(self, desk: Running, state: int) -> Dict[int, Tuple[Optional[int], str]]:
         """The cut that breaks each bank, and how it stands then, by the bank's place."""
         return {at: (cut, how) for piece in desk.answer(state, "breaking") for at, cut, how in piece["exact"]}
 
@@ -155,10 +155,10 @@ class OneUnit(DeskCase):
         files = self.net(banks, "A,B,1,2\nA,C,1,2\nA,D,2,10\nB,D,1,2\n" + large)
         self.assertEqual(self.desk(files).answer(0, "unit")[-1]["banks"], [1])
 
-    def by_costs(self, files, keep):
+    def by_costs(self, files: Any, keep: int) -> List[int]:
         """The banks that are otherwise in `costs` where all amounts are halved or doubled."""
 
-        def places(banks, debts):
+        def places(banks: str, debts: str) -> List[Tuple[str, bool]]:
             return [
                 (row[-1], row[-2] != "0") for row in standings("costs", *self.net(banks, debts), "--keep", str(keep))
             ]

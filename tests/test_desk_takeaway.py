@@ -1,6 +1,7 @@
 """What is taken away from the desk says what the state says: files, scenarios, the report and the evidence."""
 import hashlib
 import io
+import pathlib
 import subprocess
 import unittest
 import zipfile
@@ -101,7 +102,7 @@ class TakenAway(DeskCase):
             disposition = desk.ask("GET", desk.at(f"/take/0/{what}"))[1]["Content-Disposition"]
             self.assertRegex(disposition, r'^attachment; filename="[a-z]+\.[a-z]+"$')
 
-    def checked(self, folder):
+    def checked(self, folder: pathlib.Path) -> str:
         """A folder of evidence holds by its own check, whose lines are given."""
         done = subprocess.run(
             [str(ROOT / "bin/clearing-evidence"), "check", str(folder)], capture_output=True, encoding="utf-8"

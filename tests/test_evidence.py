@@ -325,7 +325,7 @@ class Builds(EvidenceCase):
 class Whole(EvidenceCase):
     """A folder is made whole or not at all."""
 
-    def nothing_is_left(self, folder, *others):
+    def nothing_is_left(self, folder: pathlib.Path, *others: str) -> None:
         self.assertEqual(sorted(path.name for path in folder.parent.iterdir()), sorted(others))
 
     def test_a_folder_is_made_whole_or_not_at_all(self):

@@ -3,8 +3,9 @@ import concurrent.futures
 import random
 import sys
 import unittest
+from typing import Any, Dict, List
 
-from common import ROOT, Case, clearing, tool
+from common import ROOT, Case, Word, clearing, tool
 from odd_names import ODD_FIELDS, all_names
 
 from clearing_client import limits  # noqa: E402
@@ -44,10 +45,10 @@ BYTES = [
 class Made:
     """Makes two files: a network within all limits, then up to a few changes of its records, fields and bytes."""
 
-    def __init__(self, seed):
+    def __init__(self, seed: int) -> None:
         self.random = random.Random(seed)
 
-    def files(self):
+    def files(self) -> List[bytes]:
         pick = self.random
         names = pick.sample(NAMES, pick.randint(1, 6))
         two = pick.random() < 0.4
@@ -71,10 +72,10 @@ class Made:
             files[place] = self.changed_bytes(files[place])
         return files
 
-    def number(self, most):
+    def number(self, most: int) -> str:
         return str(self.random.choice([0, 1, 7, self.random.randint(0, most), most]))
 
-    def change(self, table):
+    def change(self, table: List[List[str]]) -> None:
         """Changes one record of a table, or its place."""
         pick = self.random
         # The header less often than the others.
@@ -96,14 +97,14 @@ class Made:
         else:
             table.insert(place + 1, [pick.choice(["", " ", "\t"])] * pick.randint(1, 5))
 
-    def field_of(self, field):
+    def field_of(self, field: str) -> str:
         pick = self.random
         needs = any(c in field for c in ',"\r\n')
         if pick.random() < (0.9 if needs else 0.1):
             return '"' + field.replace('"', '""') + '"'
         return field if pick.random() < 0.9 else pick.choice([" ", "\t", "  "]) + field + pick.choice([" ", "\t", ""])
 
-    def text_of(self, table):
+    def text_of(self, table: List[List[str]]) -> bytes:
         pick = self.random
         ends = [pick.choice(["\n", "\n", "\r\n", "\r"])]
         if pick.random() < 0.1:
@@ -118,7 +119,7 @@ class Made:
             code = pick.choice(["utf-16", "latin-1"])
         return text.encode(code, "replace")
 
-    def changed_bytes(self, data):
+    def changed_bytes(self, data: bytes) -> bytes:
         pick = self.random
         at = pick.randint(0, len(data))
         kind = pick.randrange(3)
@@ -242,19 +243,19 @@ class MadeScenarios:
     """Makes a scenarios file: scenarios of names, cuts and losses, with a few changes of their values, lines and
     bytes."""
 
-    def __init__(self, seed):
+    def __init__(self, seed: int) -> None:
         self.random = random.Random(seed)
 
-    def value(self, good):
+    def value(self, good: List[str]) -> str:
         pick = self.random
         if pick.random() < 0.93:
             return pick.choice(good)
         return pick.choice(pick.choice([TEXTS, WHOLE, OTHERS]))
 
-    def key(self, key):
+    def key(self, key: str) -> str:
         return key if self.random.random() < 0.98 else self.random.choice(KEYS)
 
-    def file(self):
+    def file(self) -> bytes:
         pick = self.random
         lines = []
         for _ in range(pick.choice([0, 1, 1, 2, 2, 3])):
@@ -288,7 +289,7 @@ class MadeScenarios:
 class MadeJournal(Made):
     """Makes a journal of raises of some debts, with a few changes of its records, fields and bytes."""
 
-    def file(self):
+    def file(self) -> bytes:
         pick = self.random
         debts = [line.split(",")[:3] for line in NETWORK["debts"].decode().splitlines()[1:]]
         table = [list(findings.JOURNAL)]
@@ -375,7 +376,7 @@ TOLD_OF_SCENARIOS = [
 
 
 class Lint(Case):
-    def first_of_program(self, at, files):
+    def first_of_program(self, at: int, files: Dict[str, bytes]) -> str:
         """What the program says of two files, or of three: nothing where it accepts them, and else its first fault."""
         task = {"scenarios": "stress", "journal": "replay"}.get(list(files)[-1], "check")
         done = clearing(
@@ -388,7 +389,7 @@ class Lint(Case):
         self.assertEqual(done.returncode, 4, (done.stderr, files))
         return done.stderr.decode().removeprefix("clearing: ").rstrip("\n")
 
-    def compare_all(self, made):
+    def compare_all(self, made: List[Dict[str, bytes]]) -> Any:
         """Compares the first fault of each of some files with the program's. Gives how often each kind came first."""
         counts = {}
         with concurrent.futures.ThreadPoolExecutor(8) as pool:
@@ -404,10 +405,10 @@ class Lint(Case):
                 counts[kind] = counts.get(kind, 0) + 1
         return counts
 
-    def compare(self, banks, debts):
+    def compare(self, banks: bytes, debts: bytes) -> Any:
         return next(iter(self.compare_all([{"banks": banks, "debts": debts}])))
 
-    def is_of_use(self, counts, kinds, accepted):
+    def is_of_use(self, counts: Any, kinds: int, accepted: int) -> None:
         """Many files are accepted, and each kind comes first in some."""
         for kind in ["", *kinds]:
             self.assertGreater(counts.get(kind, 0), 1, (kind, counts))
@@ -507,7 +508,7 @@ class Lint(Case):
             self.assertTrue(field_hints.name_fault(f"A{chr(code)}B".encode()), code)
 
     def test_each_odd_field_in_each_place_is_judged_as_the_program_does(self):
-        def quoted(records):
+        def quoted(records: List[List[str]]) -> bytes:
             return "".join(
                 ",".join('"' + field.replace('"', '""') + '"' for field in record) + "\n" for record in records
             ).encode()
@@ -679,7 +680,7 @@ class Lint(Case):
         none = self.folder / "none.csv"
         self.refused("clearing-lint", 3, f"cannot read {none}", "--banks", none, "--debts", none)
 
-    def run_lint(self, status, banks, debts, *more):
+    def run_lint(self, status: int, banks: Any, debts: Any, *more: Word) -> List[str]:
         done = tool("clearing-lint", "--banks", banks, "--debts", debts, *more)
         self.assertEqual((done.returncode, done.stderr), (status, ""))
         return done.stdout.splitlines()

@@ -1,19 +1,20 @@
 """`clearing-from-list` makes the two files of a list of debts, and says what it left out."""
-from common import ROOT
+from typing import List
+from common import ROOT, Word
 from imported import ImportCase
 
 TABLE = "bank,cash,outside,rule\nA,3,0,order\nB,4,1,equal\nC,5,0,webster\n"
 
 
-class List(ImportCase):
-    def words(self, text, table=TABLE):
+class Exposures(ImportCase):
+    def words(self, text: str, table: str = TABLE) -> List[Word]:
         return [self.file("list.csv", text), "--table", self.file("table.csv", table), *self.files]
 
-    def take(self, text, *more, table=TABLE):
+    def take(self, text: str, *more: Word, table: str = TABLE) -> str:
         """What the tool tells of a list that it takes."""
         return self.told("clearing-from-list", *self.words(text, table), *more)
 
-    def refuse(self, message, text, *more, table=TABLE):
+    def refuse(self, message: str, text: str, *more: Word, table: str = TABLE) -> None:
         self.refused("clearing-from-list", 1, message, *self.words(text, table), *more)
         self.nothing_made()
 
@@ -144,7 +145,7 @@ class List(ImportCase):
             self.take(text, "--rule-column", column, table=both)
             self.assertEqual(self.banks.read_text(), f"name,cash,rule\nA,3,{rules[0]}\nB,4,{rules[1]}\n")
 
-    def refuse_again(self, message, text, table):
+    def refuse_again(self, message: str, text: str, table: str) -> None:
         self.banks.unlink(), self.debts.unlink()
         self.refuse(message, text, table=table)
 

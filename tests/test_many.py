@@ -6,7 +6,7 @@ import pathlib
 import subprocess
 from typing import Any, Dict, List, Mapping, Tuple
 
-from common import CHAIN, ROOT, Case, tool
+from common import CHAIN, ROOT, Case, Word, tool
 
 import clearing_client
 from clearing_client import limits
@@ -86,7 +86,7 @@ REFUSED = {
 
 
 class Many(Case):
-    def many(self, *words, program=PROGRAM):
+    def many(self, *words: Word, program: str = PROGRAM) -> "subprocess.CompletedProcess[str]":
         script = self.file("program", program)
         script.chmod(0o755)
         environment = {**os.environ, "CLEARING": str(script), "COUNTED": str(self.folder / "counted")}
@@ -95,7 +95,7 @@ class Many(Case):
             run, cwd=self.folder, env=environment, stdin=subprocess.DEVNULL, capture_output=True, encoding="utf-8"
         )
 
-    def runs(self):
+    def runs(self) -> int:
         return len((self.folder / "counted").read_text().splitlines())
 
     def test_one_job_is_run_once_and_kept(self):

@@ -11,10 +11,10 @@ import re
 import shutil
 import subprocess
 import sys
-from typing import List
+from typing import Any, List, Optional, Tuple
 from unittest import mock
 
-from common import PROGRAM, ROOT, Case, python_with
+from common import PROGRAM, ROOT, Case, Word, python_with
 
 sys.path.append(str(ROOT / "bench"))
 import inputs  # noqa: E402
@@ -98,7 +98,7 @@ def cells(line: str) -> List[str]:
 
 
 class Measure(Case):
-    def run_of(self, *words, program=None, **more):
+    def run_of(self, *words: str, program: Optional[str] = None, **more: Any) -> Tuple[int, List[str], str]:
         environment = {
             **os.environ,
             "CLEARING": program or os.path.realpath(PROGRAM),
@@ -114,12 +114,12 @@ class Measure(Case):
         )
         return done.returncode, done.stdout.splitlines(), done.stderr
 
-    def odd(self, words, other):
+    def odd(self, words: str, other: str) -> str:
         path = self.file("odd", ODD.format(program=os.path.realpath(PROGRAM), words=words, other=other))
         path.chmod(0o755)
         return str(path)
 
-    def table(self, lines, title, heads, labels):
+    def table(self, lines: List[str], title: str, heads: List[str], labels: List[str]) -> None:
         """Some lines are a table: its heads, and rows with milliseconds and then ratios."""
         self.assertEqual(cells(lines[0]), [title, *heads])
         self.assertEqual([cells(line)[0] for line in lines[1:]], labels)
@@ -201,7 +201,7 @@ class Measure(Case):
         self.assertEqual(cells(lines[1])[3], "-")
         self.assertRegex(cells(lines[1])[2], r"^[0-9.]+$")
 
-    def speed(self, *words, program=None):
+    def speed(self, *words: Word, program: Optional[str] = None) -> "subprocess.CompletedProcess[str]":
         environment = {**os.environ, "CLEARING": program or os.path.realpath(PROGRAM)}
         run = [str(ROOT / "bench/speed.py"), "--runs", "1", *map(str, words)]
         return subprocess.run(run, env=environment, stdin=subprocess.DEVNULL, capture_output=True, encoding="utf-8")
@@ -310,7 +310,7 @@ class Measure(Case):
         rows = [[name, "2000.0", "0.50", "2.25", "1000.0"] for name in names]
         self.assertEqual([cells(line) for line in workers[1:]], rows)
 
-    def scale(self, *words, python=sys.executable):
+    def scale(self, *words: Word, python: str = sys.executable) -> "subprocess.CompletedProcess[str]":
         environment = {**os.environ, "CLEARING": os.path.realpath(PROGRAM)}
         run = [python, "-B", ROOT / "bench/scale.py", "--runs", "1", *words]
         return subprocess.run(run, env=environment, stdin=subprocess.DEVNULL, capture_output=True, encoding="utf-8")

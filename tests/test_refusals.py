@@ -6,9 +6,9 @@ import pathlib
 import re
 import subprocess
 import unittest
-from typing import Iterable, Iterator, List, Sequence, Tuple, Union
+from typing import Any, Iterable, Iterator, List, Optional, Sequence, Tuple, Union
 
-from common import PROGRAM, ROOT, Case
+from common import PROGRAM, ROOT, Case, Word
 
 # The words of a command line, which may be no text.
 Words = Sequence[Union[str, bytes]]
@@ -46,11 +46,11 @@ NUMERALS = {
 }
 
 
-def joined(*parts):
+def joined(*parts: Union[str, bytes]) -> bytes:
     return b"".join(part if isinstance(part, bytes) else part.encode() for part in parts)
 
 
-def bank_faults(second):
+def bank_faults(second: bool) -> Iterator[Any]:
     """The kind of a fault, and a record that has it, below banks A, B and one with a long name."""
     more = ",0" if second else ""
     yield from (
@@ -85,7 +85,7 @@ def bank_faults(second):
         yield ("rule", "C,1,x,x")
 
 
-def debt_faults():
+def debt_faults() -> Iterator[Any]:
     yield from (("fields", text) for text in ["A,B,2", "A", "A,B,2,1,1", "A" + ",x" * 70])
     for kind, names in NAMES.items():
         yield from ((kind, joined(name, ",A,2,1")) for name in names)
@@ -105,7 +105,7 @@ def debt_faults():
     ]
 
 
-def raise_faults():
+def raise_faults() -> Iterator[Any]:
     yield from (
         ("fields", text)
         for text in ["2,A,B,1", "2", "2,A,B,1,1,1", "2" + ",x" * 70, "rounds,x", "rounds,1,1", "Rounds,1"]
@@ -137,7 +137,7 @@ HEADERS = {
 }
 
 
-def header_faults(words):
+def header_faults(words: str) -> Iterator[Any]:
     yield from [
         "",
         "\n\n",
@@ -158,7 +158,7 @@ def header_faults(words):
     ]
 
 
-def one(name, *rest):
+def one(name: str, *rest: str) -> str:
     return f"[[scenario]]\nname = {name}\n" + "".join(f"{text}\n" for text in rest)
 
 
@@ -226,7 +226,7 @@ def scenario_faults() -> Iterator[Tuple[str, str]]:
     ]
 
 
-def documents():
+def documents() -> Iterator[Any]:
     """The kind of a fault of a whole document, and the document."""
     for text in [
         "scenario",
@@ -440,18 +440,18 @@ class Refusals(Case):
         }
         self.use(FEW_BANKS, FEW_DEBTS)
 
-    def use(self, banks, debts):
+    def use(self, banks: Any, debts: Any) -> None:
         """Gives a network to the runs that follow."""
         for file, records in (("banks", banks), ("debts", debts)):
             self.names[file] = self.file(f"{file}.csv", "\n".join([HEADERS[file], *records]) + "\n")
 
-    def on_both(self):
+    def on_both(self) -> Iterator[Any]:
         """Both networks, by turns; answers whether it is the large one."""
         for many in (False, True):
             self.use(MANY_BANKS if many else FEW_BANKS, MANY_DEBTS if many else FEW_DEBTS)
             yield many
 
-    def ends(self, words, status, message, output=""):
+    def ends(self, words: Sequence[Any], status: int, message: str, output: str = "") -> None:
         words = [word if isinstance(word, bytes) else str(word).encode() for word in words]
         done = subprocess.run([PROGRAM.encode(), *words], stdin=subprocess.DEVNULL, capture_output=True)
         told = done.returncode, done.stderr.decode(errors="replace"), done.stdout.decode(errors="replace")
@@ -461,21 +461,21 @@ class Refusals(Case):
                 f" {status, message[:200]}"
             )
 
-    def words(self, file, path, task=None):
+    def words(self, file: str, path: Word, task: Optional[str] = None) -> List[Word]:
         """The words of a run of which a file has another name."""
         task = task or {"banks": "check", "debts": "clear", "scenarios": "stress", "journal": "replay"}[file]
         names = {**self.names, file: path}
         shown = ["banks", "debts", *([file] if file in ("scenarios", "journal") else [])]
         return [task, *(word for name in shown for word in (f"--{name}", names[name]))]
 
-    def fault(self, file, content, row, kind, task=None):
+    def fault(self, file: str, content: Any, row: int, kind: str, task: Optional[str] = None) -> None:
         self.ends(
             self.words(file, self.file("tried", content), task),
             4,
             f"clearing: {file} row {row}: {kind} ({NUMBERS[kind]})\n",
         )
 
-    def check_records(self, file, header, before, faults, blanks=BLANKS):
+    def check_records(self, file: str, header: str, before: Any, faults: Any, blanks: Any = BLANKS) -> None:
         faults = list(faults)
         for count in blanks:
             # All faults in the first rows, and of the late ones those of each kind that come first and last.

@@ -185,7 +185,7 @@ class Player(InTheBrowser):
         self.press(Keys.ENTER)
         self.assertEqual(self.shown_rows()[0], "Crédit Loire")
 
-    def walk(self):
+    def walk(self) -> None:
         """Goes through the journal by each of its ways, without motion."""
         self.run_of("Emulation.setEmulatedMedia", features=[{"name": "prefers-reduced-motion", "value": "reduce"}])
         self.click("first")

@@ -1,6 +1,6 @@
 """The tables of the report have the numbers of the program, and are sorted and filtered."""
 import re
-from typing import Dict, List, Tuple
+from typing import Any, Dict, List, Tuple
 
 from browser import Keys
 from common import ROOT, Word, clearing
@@ -487,7 +487,7 @@ class Costs(InTheBrowser):
         self.assertEqual(self.js("return document.querySelectorAll('#costs, a[href=\"#costs\"]').length"), 0)
 
     def test_the_summary_tells_both_ends_where_default_costs(self):
-        def last(*words):
+        def last(*words: Any) -> List[str]:
             self.open(*words)
             return self.js("return [...document.querySelectorAll('#summary li')].map(e => e.textContent)")[5:]
 

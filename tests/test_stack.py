@@ -7,7 +7,7 @@ import resource
 import subprocess
 import sys
 import unittest
-from typing import List
+from typing import Dict, Iterator, List, Tuple
 from unittest import mock
 
 from common import PROGRAM, ROOT, TWELVE, Case, Word, clearing, files_of, needs
@@ -27,7 +27,7 @@ UNITS = 1_000_000
 SECONDS = 300
 
 
-def to_and_fro(classes):
+def to_and_fro(classes: int) -> model.Net:
     """Two banks that owe each other a million units in each of some classes, of which one has a unit. It goes to and
     fro until all is paid: a round, and two raises, for each unit. A third bank owes nine units outside, and has
     nothing."""
@@ -38,7 +38,7 @@ def to_and_fro(classes):
 
 
 class Stack(Case):
-    def ended(self, *words, stack=STACK, environment={}):
+    def ended(self, *words: Word, stack: int = STACK, environment: Dict[str, str] = {}) -> Tuple[int, str, str]:
         """A run on a small stack. Its environment counts as stack too, so it has none."""
         limit = lambda: resource.setrlimit(resource.RLIMIT_STACK, (stack, stack))
         run = [PROGRAM, *map(str, words)]
@@ -53,13 +53,13 @@ class Stack(Case):
         )
         return done.returncode, done.stdout, done.stderr
 
-    def text(self, *words):
+    def text(self, *words: Word) -> str:
         """What a run prints that ends well."""
         status, text, message = self.ended(*words)
         self.assertEqual((status, message), (0, ""), words)
         return text
 
-    def same(self, wanted, *words):
+    def same(self, wanted: str, *words: Word) -> None:
         with self.subTest(words=[str(word) for word in words]):
             told = self.text(*words)
             # A long text is not shown.
@@ -150,7 +150,7 @@ class Stack(Case):
         words = ["gen", "--seed", 1, "--size", 1000, "--tries", 20_000]
         self.assertEqual(self.text(*words, "--workers", 64), self.text(*words, "--workers", 1))
 
-    def said(self):
+    def said(self) -> List[int]:
         """The bytes that PROVED says of the main thread, a thread, and the deepest scenarios."""
         text = (ROOT / "docs/PROVED.md").read_text(encoding="utf-8")
         found = re.search(
@@ -163,7 +163,7 @@ class Stack(Case):
         )
         return [int(number.replace(",", "")) * 1024 for number in found.groups()]
 
-    def tasks(self):
+    def tasks(self) -> Iterator[Tuple[List[Word], bool]]:
         """A run of each task, with 8 workers where it has some, and whether it starts threads."""
         files = files_of(TWELVE)
         journal = self.file("journal.csv", clearing("clear", *files, "--show", "journal", "--workers", 1).stdout)

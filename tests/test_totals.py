@@ -8,8 +8,9 @@ import re
 import shutil
 import subprocess
 import sys
+from typing import Any, Dict, List, Tuple
 
-from common import ROOT, Case, needs_modules, python_with, run_of, tool
+from common import ROOT, Case, Word, needs_modules, python_with, run_of, tool
 
 from clearing_tools.imports.networks import chain as chains  # noqa: E402
 from clearing_tools.imports.networks import claims as whole_claims  # noqa: E402
@@ -101,7 +102,7 @@ class Words(Case):
 
 @needs_modules("numpy")
 class Totals(Case):
-    def run_of(self, table, *words):
+    def run_of(self, table: str, *words: Word) -> "subprocess.CompletedProcess[str]":
         return tool(
             "clearing-from-totals",
             self.file("t.csv", table),
@@ -111,25 +112,25 @@ class Totals(Case):
             python=python_with("numpy"),
         )
 
-    def made_of(self, table, *words):
+    def made_of(self, table: str, *words: Word) -> str:
         done = self.run_of(table, *words)
         self.assertEqual((done.returncode, done.stdout), (0, ""), done.stderr)
         return done.stderr
 
-    def refuse(self, message, table, *words, status=1):
+    def refuse(self, message: str, table: str, *words: Word, status: int = 1) -> None:
         done = self.run_of(table, *words)
         self.assertEqual((done.returncode, done.stdout), (status, ""), done.stderr)
         self.assertIn(message, done.stderr)
         self.assertFalse((self.folder / "out").exists())
 
-    def debts(self, folder="out"):
+    def debts(self, folder: str = "out") -> Dict[Tuple[str, str], int]:
         """The claims of a network that the program takes, by debtor and creditor."""
         place = self.folder / folder
         self.printed("check", "--banks", place / "banks.csv", "--debts", place / "debts.csv")
         rows = [line.split(",") for line in (place / "debts.csv").read_text().split("\n")[1:-1]]
         return {(row[0], row[1]): int(row[3]) for row in rows}
 
-    def check_totals(self, debts, table, unit=1):
+    def check_totals(self, debts: Dict[Tuple[str, str], int], table: str, unit: Any = 1) -> None:
         for line in table.splitlines()[1:]:
             name, assets, liabilities = line.split(",")[:3]
             self.assertEqual(
@@ -228,7 +229,7 @@ class Totals(Case):
             self.made_of(TABLE, "--method", method, "--samples", 6, "--seed", 6, "--steps", 2000)
             self.assertNotEqual([self.debts(f"out/{n}") for n in range(1, 7)], first)
 
-    def check_frequencies(self, owes, owed, rounds, steps):
+    def check_frequencies(self, owes: List[int], owed: List[int], rounds: int, steps: int) -> int:
         """Compares how often networks come with their weights: each claim is there with the probability 0.3, and of a
         geometric size with the mean that the totals ask for."""
         size = len(owes)
@@ -237,7 +238,7 @@ class Totals(Case):
         more = 1 - 1 / mean
         weights = {}
 
-        def visit(at, claims, out, in_):
+        def visit(at: int, claims: Any, out: Any, in_: Any) -> None:
             if at == len(cells):
                 if not any(out) and not any(in_):
                     weight = 1.0
@@ -280,10 +281,10 @@ class Totals(Case):
         class Grid:
             """Draws the middles of so many equal parts, one after another."""
 
-            def __init__(self, parts):
+            def __init__(self, parts: Any) -> None:
                 self.numbers = ((part + 0.5) / parts for part in range(parts))
 
-            def random(self):
+            def random(self) -> float:
                 return next(self.numbers)
 
         for up, down in [([3, 5], [4, 4]), ([0, 2], [1, 7]), ([2, 2, 9], [3, 3, 3]), ([1, 0], [1, 1])]:
@@ -464,7 +465,7 @@ class Totals(Case):
         self.assertIn("so that both sums are 3\n", told)
         self.assertEqual(sum(self.debts().values()), 3)
 
-    def refuse_after(self, message, table, *words):
+    def refuse_after(self, message: str, table: str, *words: Word) -> None:
         before = (self.folder / "out/debts.csv").read_bytes()
         done = self.run_of(table, *words)
         self.assertEqual((done.returncode, done.stdout), (1, ""))
