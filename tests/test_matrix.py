@@ -107,7 +107,7 @@ class Columns(ImportCase):
             self.check(
                 "name,cash,rule,outside\nA,3,order,1\nB,4,equal,0\n", "debtor,creditor,class,claim\nA,B,1,6\nB,A,1,2\n"
             )
-            self.banks.unlink(), self.debts.unlink()
+            self.begin_anew()
         told = "n.csv row 1: no column Outside; it has no other; say --outside NAME"
         self.refused("clearing-from-matrix", 1, told, matrix, "--outside", "Outside", *self.files)
 
@@ -181,7 +181,7 @@ class Columns(ImportCase):
                 self.told("clearing-from-matrix", *sheet, "--no-outside", *self.files),
             )
             self.check("name,cash,rule\nA,3,webster\nB,4,webster\n", "debtor,creditor,class,claim\nA,B,1,6\nB,A,1,2\n")
-            self.banks.unlink(), self.debts.unlink()
+            self.begin_anew()
 
     def test_banks_of_the_table_alone_are_kept(self):
         matrix = self.file("m.csv", ",B,C\nA,6,4\nB,0,8\n")
@@ -192,7 +192,7 @@ class Columns(ImportCase):
             "name,cash,rule\nA,3,webster\nB,4,webster\nC,5,webster\nD,9,webster\n",
             "debtor,creditor,class,claim\nA,B,1,6\nA,C,1,4\nB,C,1,8\n",
         )
-        self.banks.unlink(), self.debts.unlink()
+        self.begin_anew()
         for missing in ("A", "C"):
             table = self.file("t.csv", "bank,cash\nD,9\nA,3\nB,4\nC,5\n".replace(f"{missing},", "X,"))
             done = tool("clearing-from-matrix", matrix, "--table", table, *self.files)

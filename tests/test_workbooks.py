@@ -43,7 +43,7 @@ class Workbooks(ImportCase):
     def check(self, banks: str = BANKS, debts: str = DEBTS) -> None:
         """The two files that were made are these, by default those of the matrix; then they are taken away."""
         super().check(banks, debts)
-        self.banks.unlink(), self.debts.unlink()
+        self.begin_anew()
 
     def test_a_matrix_of_a_workbook_is_that_of_its_text(self):
         book = written(self.folder / "m.xlsx", {"Claims": MATRIX})
