@@ -9,7 +9,6 @@ import re
 import shutil
 import subprocess
 import sys
-from typing import Dict, Tuple
 
 from common import ROOT, Case, Word, python_with, run_of, tool
 from imported import TOTALS, TotalsCase
