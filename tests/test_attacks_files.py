@@ -328,55 +328,41 @@ class WhoMayRead(Case):
 
     def test_what_is_made_of_files_that_are_not_for_all_is_not_for_all(self):
         net = self.private()
-        for name, words, made in [
-            ("clearing-breaking", ["--output"], "breaking.csv"),
-            ("clearing-impact", ["--matrix"], "impact.csv"),
-            ("clearing-rescues", ["--output"], "rescues.csv"),
-            ("clearing-to-matrix", ["--out"], "matrix.csv"),
-            ("clearing-report", ["--out"], "report.html"),
-        ]:
-            done = tool(name, *net, *words, self.folder / made)
-            self.assertEqual(done.returncode, 0, (name, done.stderr))
-            self.assertEqual(oct(permitted(self.folder / made)), "0o600", name)
         scenarios = self.file("s.toml", '[[scenario]]\nname = "a"\n')
-        done = tool(
-            "clearing-shock", *net[:2], "--scenarios", scenarios, "--scenario", 1, "--output", self.folder / "left.csv"
-        )
-        self.assertEqual((done.returncode, oct(permitted(self.folder / "left.csv"))), (0, "0o600"), done.stderr)
-        made = subprocess.run(
-            [str(ROOT / "bin/clearing-evidence"), "make", self.folder / "evidence", *map(str, net)], capture_output=True
-        )
+        for name, words, made in [
+            ("clearing-breaking", [*net, "--output"], "breaking.csv"),
+            ("clearing-impact", [*net, "--matrix"], "impact.csv"),
+            ("clearing-rescues", [*net, "--output"], "rescues.csv"),
+            ("clearing-to-matrix", [*net, "--out"], "matrix.csv"),
+            ("clearing-report", [*net, "--out"], "report.html"),
+            ("clearing-shock", [*net[:2], "--scenarios", scenarios, "--scenario", 1, "--output"], "left.csv"),
+        ]:
+            with self.subTest(name=name):
+                done = tool(name, *words, self.folder / made)
+                self.assertEqual(done.returncode, 0, done.stderr)
+                self.assertEqual(oct(permitted(self.folder / made)), "0o600")
+
+    def test_a_folder_of_evidence_of_such_files_is_not_for_all(self):
+        folder = self.folder / "evidence"
+        made = tool("clearing-evidence", "make", folder, *self.private())
         self.assertEqual(made.returncode, 0, made.stderr)
-        self.assertEqual(oct(permitted(self.folder / "evidence")), "0o700")
-        for path in (self.folder / "evidence").rglob("*"):
+        self.assertEqual(oct(permitted(folder)), "0o700")
+        for path in folder.rglob("*"):
             self.assertEqual(permitted(path) & 0o077, 0, path)
-        jobs = self.file(
-            "jobs.tsv",
-            "\t".join(["a", "check", *map(str, net)])
-            + "\n"
-            + "\t".join(["b", "check", f"--banks={net[1]}", *map(str, net[2:])])
-            + "\n"
-            + "\t".join(["c", "check", *map(str, FILES)])
-            + "\n"
-            + "\t".join(["d", "check", *map(str, net), "--bad"])
-            + "\n",
-        )
-        subprocess.run(
-            [str(ROOT / "bin/clearing-many"), "run", str(jobs), str(self.folder / "many"), "1"], capture_output=True
-        )
+
+    def test_of_many_jobs_those_of_such_files_are_not_for_all(self):
+        net = list(map(str, self.private()))
+        jobs = [
+            ["a", "check", *net],
+            ["b", "check", f"--banks={net[1]}", *net[2:]],
+            ["c", "check", *map(str, FILES)],
+            ["d", "check", *net, "--bad"],
+        ]
+        text = "".join("\t".join(job) + "\n" for job in jobs)
+        tool("clearing-many", "run", self.file("jobs.tsv", text), self.folder / "many", 1)
         modes = {path.name: oct(permitted(path)) for path in (self.folder / "many").iterdir()}
-        self.assertEqual(
-            modes,
-            {
-                "a.out": "0o600",
-                "a.job": "0o600",
-                "b.out": "0o600",
-                "b.job": "0o600",
-                "c.out": "0o644",
-                "c.job": "0o644",
-                "d.failed": "0o600",
-            },
-        )
+        private = {f"{job}.{kind}": "0o600" for job in "ab" for kind in ("out", "job")}
+        self.assertEqual(modes, {**private, "c.out": "0o644", "c.job": "0o644", "d.failed": "0o600"})
 
     def test_a_kept_mode_has_no_setuid(self):
         for write in writers():

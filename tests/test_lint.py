@@ -7,6 +7,32 @@ from typing import Any, List
 from common import ROOT, Case, Word, tool
 from made_up import NETWORK
 
+FAULTY_BANKS = (
+    'name,cash,rule\r\n\r\nCrédit,"1,000",Order\r\nB,-7,webster\r\n,,\r\nB,7.5,webser\r\nC,1\u00a0000,order,\r\n'
+)
+TOLD_OF_BANKS = [
+    "line 3 (row 1) cash: number (4): '1,000' is not a number; write it without separators between thousands",
+    "line 3 (row 1) rule: rule (5): 'Order' is not a rule; write it as order, in small letters",
+    "line 4 (row 2) cash: number (4): '-7' is not a number; no amount is below 0",
+    "line 6 (row 4) name: double bank (7): the bank 'B' is also in line 4 (row 2)",
+    "line 6 (row 4) cash: number (4): '7.5' is not a number; amounts are whole units",
+    "line 6 (row 4) rule: rule (5): 'webser' is not a rule; is it webster?",
+    "line 7 (row 5): fields (2): 4 fields in place of 3; delete the commas at the end",
+]
+FAULTY_DEBTS = (
+    'debtor,creditor,class,claim\nCre\u0301dit,B,1.0,1E+06\nB,B,1,\nB,C,1,2000000\nB,C,1,5\n"B\nX",C,1,5\n'
+)
+TOLD_OF_DEBTS = [
+    "line 2 (row 1) debtor: unknown bank (8): no bank has the name 'Cre\u0301dit'; the banks file has 'Crédit'; they"
+    " differ by another Unicode form",
+    "line 2 (row 1) class: class (10): '1.0' is not a class; write it as 1",
+    "line 2 (row 1) claim: number (4): '1E+06' is not a number; write it without an exponent",
+    "line 3 (row 2) creditor: self debt (9): 'B' is its own creditor",
+    "line 3 (row 2) claim: number (4): '' is not a number; write 0",
+    "line 4 (row 3) claim: limit (6): 2,000,000 is more than 1,000,000; take a larger unit",
+    "line 5 (row 4): double debt (11): a debt of this debtor, creditor and class is also in line 4 (row 3)",
+    "line 6 (row 5) debtor: name (3): the name 'B\\nX' has the control character U+000A; a name stands in one line",
+]
 SCENARIO_FAULTS = (
     '[[scenario]]\nname = "a"\ncut = 1001\nCut = 5\n\n[[scenario]]\nname = "b,c"\n[[scenario.loss]]\n'
     'bank = "a"\namount = 7\n'
@@ -79,50 +105,11 @@ class Told(Case):
         return done.stdout.splitlines()
 
     def test_all_faults_are_named_at_once_with_hints(self):
-        banks = self.file(
-            "banks.csv",
-            (
-                'name,cash,rule\r\n\r\nCrédit,"1,000",Order\r\nB,-7,webster\r\n,,\r\n'
-                "B,7.5,webser\r\nC,1\u00a0000,order,\r\n"
-            ),
-        )
-        debts = self.file(
-            "debts.csv",
-            'debtor,creditor,class,claim\nCre\u0301dit,B,1.0,1E+06\nB,B,1,\nB,C,1,2000000\nB,C,1,5\n"B\nX",C,1,5\n',
-        )
-        lines = [
-            (
-                f"{banks} line 3 (row 1) cash: number (4): '1,000' is not a number; write it without separators between"
-                " thousands"
-            ),
-            f"{banks} line 3 (row 1) rule: rule (5): 'Order' is not a rule; write it as order, in small letters",
-            f"{banks} line 4 (row 2) cash: number (4): '-7' is not a number; no amount is below 0",
-            f"{banks} line 6 (row 4) name: double bank (7): the bank 'B' is also in line 4 (row 2)",
-            f"{banks} line 6 (row 4) cash: number (4): '7.5' is not a number; amounts are whole units",
-            f"{banks} line 6 (row 4) rule: rule (5): 'webser' is not a rule; is it webster?",
-            f"{banks} line 7 (row 5): fields (2): 4 fields in place of 3; delete the commas at the end",
-            (
-                f"{debts} line 2 (row 1) debtor: unknown bank (8): no bank has the name 'Cre\u0301dit'; "
-                "the banks file has 'Crédit'; they differ by another Unicode form"
-            ),
-            f"{debts} line 2 (row 1) class: class (10): '1.0' is not a class; write it as 1",
-            f"{debts} line 2 (row 1) claim: number (4): '1E+06' is not a number; write it without an exponent",
-            f"{debts} line 3 (row 2) creditor: self debt (9): 'B' is its own creditor",
-            f"{debts} line 3 (row 2) claim: number (4): '' is not a number; write 0",
-            f"{debts} line 4 (row 3) claim: limit (6): 2,000,000 is more than 1,000,000; take a larger unit",
-            (
-                f"{debts} line 5 (row 4): double debt (11): a debt of this debtor, creditor and class is also in line 4"
-                " (row 3)"
-            ),
-            (
-                f"{debts} line 6 (row 5) debtor: name (3): the name 'B\\nX' has the control character U+000A; a name "
-                "stands in one line"
-            ),
-            "15 faults",
-        ]
+        banks, debts = self.file("banks.csv", FAULTY_BANKS), self.file("debts.csv", FAULTY_DEBTS)
         done = self.run_lint(1, banks, debts)
-        self.assertEqual(len(done), len(lines), done)
-        for line, begin in zip(done, lines):
+        lines = [f"{banks} {told}" for told in TOLD_OF_BANKS] + [f"{debts} {told}" for told in TOLD_OF_DEBTS]
+        self.assertEqual(len(done), len(lines) + 1, done)
+        for line, begin in zip(done, [*lines, "15 faults"]):
             self.assertTrue(line.startswith(begin), (line, begin))
 
     def test_headers_that_are_none_are_explained(self):
