@@ -115,7 +115,7 @@ class Compared(DeskPage):
         self.assertEqual(self.js("return document.getElementById('bank-decided')"), None)
 
     def open_for_files(self) -> str:
-        """Opens a state that is kept, where each file that the page gives is held back; and tells what its source is."""
+        """Opens a state that is kept, where each file that the page gives is held back: the source of its figures."""
         self.open(None, "--unit", "1000", "--currency", "EUR", "--title", "Twelve banks, and a comma")
         self.slide("cut", 950)
         self.until_state(1)
