@@ -200,7 +200,7 @@ class Many(Case):
         self.assertFalse((self.folder / "counted").exists())
 
     def at_the_limits(self) -> List[Tuple[bytes, bytes]]:
-        """Banks files and debts files at the standard limits and beyond, in several forms; the last pair is no network."""
+        """Banks files and debts files at the standard limits and beyond, in several forms; the last pair is none."""
         head, standard = b"debtor,creditor,class,claim\n", limits.LIMITS["standard"]
         banks = [b"name,cash,rule\n" + b"".join(b"N%d,1,order\n" % n for n in range(count)) for count in (1000, 1001)]
         debts = [head + b"A,B,1,0\n" * count for count in (20_000, 20_001)]
