@@ -67,6 +67,7 @@ class Access(DeskPage):
 
     def test_where_what_had_the_focus_goes_its_part_has_it(self):
         self.open_bank_by_keys()
+        self.unfold("change-bank")
         debt = self.js("return document.querySelector('#owes button[id^=strike]').id")
         self.focus(debt)
         self.press(Keys.ENTER)
