@@ -1,7 +1,6 @@
 """What the tests of the tools that ask what would break a network share: networks, the commands, and how a tool runs on
 a program that does something else."""
 import os
-import pathlib
 import subprocess
 from typing import Any, Iterator, List, Tuple
 
@@ -12,19 +11,6 @@ SMALL_BANKS = "name,cash,rule,outside\nA,12,webster,4\nB,3,equal,0\nC,2,order,1\
 SMALL_DEBTS = "debtor,creditor,class,claim\nA,B,1,6\nA,C,2,3\nB,C,1,4\nB,A,2,3\nC,A,1,2\nC,D,1,3\n"
 ASKED = "breaking|impact|rescues|outcomes"
 """The tasks that the tools ask many times or for long, as a shell matches them."""
-
-
-def records(text: str) -> List[List[str]]:
-    """The records of a table below its header."""
-    return [line.split(",") for line in text.removesuffix("\n").split("\n")[1:]]
-
-
-def is_running(number: str) -> bool:
-    """Whether a process runs; one that ended and was not waited for does not."""
-    try:
-        return pathlib.Path(f"/proc/{number}/stat").read_text().rsplit(") ", 1)[1][0] not in "ZX"
-    except OSError:
-        return False
 
 
 class AnalysisCase(Case):

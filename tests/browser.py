@@ -6,11 +6,10 @@ import os
 import shutil
 import subprocess
 import sys
-import time
 import unittest
-from typing import Any, Callable, Dict, List, Tuple
+from typing import Any, Dict, List, Tuple
 
-from common import python_with
+from common import Case, python_with
 
 D3 = "/usr/share/nodejs/d3/dist/d3.min.js"
 
@@ -41,13 +40,22 @@ def reason() -> str:
 REASON = reason()
 
 
+class Keys:
+    """Keys by the signs that WebDriver has for them (its standard, W3C 2018), so that a test names one where Selenium
+    is missing too."""
+
+    BACKSPACE, TAB, ENTER = "\ue003", "\ue004", "\ue007"
+    SHIFT, CONTROL, ESCAPE = "\ue008", "\ue009", "\ue00c"
+    END, HOME, ARROW_LEFT, ARROW_RIGHT = "\ue010", "\ue011", "\ue012", "\ue014"
+
+
 def selenium(module: str) -> Any:
     """A module of Selenium, which has types in some versions alone."""
     return importlib.import_module(f"selenium.webdriver.{module}")
 
 
 @unittest.skipIf(REASON, REASON)
-class Browsing(unittest.TestCase):
+class Browsing(Case):
     """A browser without a window, which logs what is asked and what its console says."""
 
     WAIT = float(os.environ.get("WAIT", "120"))
@@ -106,13 +114,6 @@ class Browsing(unittest.TestCase):
     def js(self, script: str, *words: object) -> Any:
         """What a script of the page returns, which has the words as `arguments`."""
         return self.driver.execute_script(script, *words)
-
-    def until(self, holds: Callable[[], object]) -> None:
-        """Waits for something to hold; the machine may be busy with something else."""
-        ends = time.monotonic() + self.WAIT
-        while not holds():
-            self.assertLess(time.monotonic(), ends, "it never came to be")
-            time.sleep(0.03)
 
     def click(self, key: str) -> None:
         """Clicks the element of an id."""

@@ -8,17 +8,28 @@ import shutil
 import subprocess
 import sys
 import tempfile
+import time
 import unittest
-from typing import Any, Callable, List, Optional, TypeVar, Union
+from typing import Any, Callable, Container, List, Optional, TypeVar, Union
 
 ROOT = pathlib.Path(__file__).resolve().parents[1]
-PROGRAM = os.environ.get("CLEARING") or str(ROOT / "clearing")
 PACKAGES = ROOT / "python" / "src"
-os.environ["CLEARING"] = PROGRAM
-if pathlib.Path(shutil.which(PROGRAM) or PROGRAM).resolve().name == "first-look":
-    sys.exit(f"{PROGRAM} is a first look, which is not proved; CLEARING is to name the proved program")
-sys.path.insert(0, str(PACKAGES))
 
+
+def prepared() -> str:
+    """The program that the tests run. Importing this module readies the process for it: each tool that a test starts
+    gets the same program by CLEARING in its environment, and `import clearing_client` and `import clearing_tools` find
+    the sources of this repository before a package that is installed. A first look ends the process here, since it is
+    not proved, and tests that pass by it would say nothing of the proved program."""
+    program = os.environ.get("CLEARING") or str(ROOT / "clearing")
+    if pathlib.Path(shutil.which(program) or program).resolve().name == "first-look":
+        sys.exit(f"{program} is a first look, which is not proved; CLEARING is to name the proved program")
+    os.environ["CLEARING"] = program
+    sys.path.insert(0, str(PACKAGES))
+    return program
+
+
+PROGRAM = prepared()
 EXAMPLES = sorted(path.parent for path in (ROOT / "examples").glob("*/banks.csv"))
 CHAIN, HUB, TWELVE = (ROOT / "examples" / name for name in ("chain", "hub", "twelve-banks"))
 # A class of tests or a test, which a skip gives back.
@@ -107,12 +118,29 @@ def needs_packages(*names: str) -> Callable[[Tested], Tested]:
     return unittest.skipIf(missing, f"without {', '.join(missing)}")
 
 
-def printed(*words: Word) -> str:
-    """What the program prints for these words, which ends with 0 or 7."""
-    done = clearing(*words)
-    if done.returncode not in (0, 7):
-        raise AssertionError(f"{words}: {done.returncode} {done.stderr!r}")
-    return done.stdout.decode()
+def comes(holds: Callable[[], object], seconds: float = 60) -> bool:
+    """Waits for something to hold, and tells whether it did within some seconds."""
+    ends = time.monotonic() + seconds
+    while not holds():
+        if time.monotonic() > ends:
+            return False
+        time.sleep(0.02)
+    return True
+
+
+def is_running(process: Union[int, str]) -> bool:
+    """Whether a process runs; one that has ended and was not waited for does not. One that was killed may take a
+    moment until it has ended."""
+    try:
+        state = pathlib.Path(f"/proc/{process}/stat").read_bytes().rpartition(b")")[2].split()[0]
+    except OSError:
+        return False
+    return state not in (b"Z", b"X")
+
+
+def records(text: str) -> List[List[str]]:
+    """The records of a table below its header."""
+    return [line.split(",") for line in text.removesuffix("\n").split("\n")[1:]]
 
 
 def files_of(folder: pathlib.Path) -> List[Word]:
@@ -124,6 +152,7 @@ class Case(unittest.TestCase):
     """A test with a folder of its own, which goes with it."""
 
     maxDiff = 2000
+    WAIT = 60.0  # seconds that a test waits for something; the machine may be busy with something else
 
     def setUp(self) -> None:
         """Makes the folder."""
@@ -151,10 +180,16 @@ class Case(unittest.TestCase):
         self.addCleanup(os.environ.__setitem__, "CLEARING", os.environ["CLEARING"])
         os.environ["CLEARING"] = str(self.executable("clearing", lines))
 
-    def printed(self, *words: Word) -> str:
-        """What the program prints, which ends with 0."""
+    def until(self, holds: Callable[[], object], seconds: Optional[float] = None) -> None:
+        """Waits for something to hold, which fails where it does not."""
+        self.assertTrue(comes(holds, self.WAIT if seconds is None else seconds), "it never came to be")
+
+    def printed(self, *words: Word, statuses: Container[int] = (0,)) -> str:
+        """What the program prints, which ends with 0 and without a message, or with another of some statuses."""
         done = clearing(*words)
-        self.assertEqual((done.returncode, done.stderr), (0, b""), words)
+        self.assertIn(done.returncode, statuses, (words, done.stderr))
+        if done.returncode == 0:
+            self.assertEqual(done.stderr, b"", words)
         return done.stdout.decode()
 
     def made(self, name: str, *words: Word) -> str:

@@ -2,6 +2,7 @@
 same network. It wants bottle, Debian's package python3-bottle."""
 import contextlib
 import http.client
+import importlib
 import itertools
 import json
 import os
@@ -142,13 +143,6 @@ class DeskCase(Case):
         self.file("debts.csv", f"debtor,creditor,class,claim\n{debts}")
         return files_of(self.folder)
 
-    def until(self, holds: Callable[[], object], seconds: float = 60) -> None:
-        """Waits for something to hold."""
-        ends = time.monotonic() + seconds
-        while not holds():
-            self.assertLess(time.monotonic(), ends)
-            time.sleep(0.02)
-
     def held(self, view: Dict[str, List[Any]]) -> List[List[str]]:
         """What a state says of the banks, as the program prints it."""
         columns = ("estate", "paid", "owed", "equity", "state")
@@ -165,6 +159,13 @@ def swallow(work: Callable[[], object]) -> None:
     """Does something at a desk that may end meanwhile, which then has no answer."""
     with contextlib.suppress(OSError, AssertionError, http.client.HTTPException):
         work()
+
+
+def account_of(base: Any, cleared: Any, bank: int, made: Any = None) -> Any:
+    """The account of a bank in a state that was cleared, by the desk's module of accounts or by another one."""
+    made = made or importlib.import_module("clearing_tools.desk.account")
+    owes, owed = made.debts_by(base, cleared)
+    return made.account_by(base, cleared, bank, owes, owed.get(bank, []))
 
 
 def standings(task: str, *words: Word) -> List[List[str]]:

@@ -8,8 +8,8 @@ import re
 import unittest
 from typing import Any, Dict, Iterable, List, Optional, Sequence, Tuple
 
-from browser import Browsing, selenium
-from common import TWELVE, Case, Word, files_of
+from browser import Browsing, Keys, selenium
+from common import TWELVE, Word, files_of
 from desk import REASON as NO_BOTTLE
 from desk import Running, payments_of, standings
 
@@ -81,7 +81,7 @@ def large(folder: pathlib.Path, banks: int, debts: int) -> List[Word]:
 
 
 @unittest.skipIf(NO_BOTTLE, NO_BOTTLE)
-class DeskPage(Browsing, Case):
+class DeskPage(Browsing):
     """A case that opens desks in the browser, by default on the twelve banks of the examples."""
 
     def setUp(self) -> None:
@@ -162,7 +162,7 @@ class DeskPage(Browsing, Case):
     def type_in(self, key: str, value: str) -> None:
         """Types a value in a field, and Enter."""
         self.js("const e = document.getElementById(arguments[0]); e.focus(); e.select()", key)
-        self.press(value, selenium("common.keys").Keys.ENTER)
+        self.press(value, Keys.ENTER)
 
     def choose(self, bank: int) -> None:
         """Clicks a bank in the picture, and waits for its part."""

@@ -5,7 +5,7 @@ import os
 import pathlib
 import shutil
 import subprocess
-from typing import Any
+from typing import Any, List, Tuple
 
 from common import HUB, PROGRAM, ROOT, Case, Word, files_of
 
@@ -28,6 +28,9 @@ amount = 1000000000000
 [[scenario]]
 name = "nothing"
 """
+
+# Names that a file may have, and that other texts might take for something else.
+HOSTILE = ["total", "cash", "scenario", "bank", "a b", "it's", "back\\slash", "$HOME", "-x", "é é", "rounds", "#"]
 
 
 def evidence(*words: Word, program: str = PROGRAM, **more: Any) -> Any:
@@ -53,6 +56,18 @@ class EvidenceCase(Case):
         done = evidence("make", folder, *words)
         self.assertEqual((done.returncode, done.stderr), (0, b""))
         return folder
+
+    def hostile_files(self) -> Tuple[List[Word], pathlib.Path]:
+        """A ring of banks of hostile names, short of cash: the words that name its two files, and its scenarios."""
+        banks = "name,cash,rule\n" + "".join(f"{name},{7 * place},webster\n" for place, name in enumerate(HOSTILE))
+        debts = "debtor,creditor,class,claim\n" + "".join(
+            f"{name},{HOSTILE[(place + 1) % len(HOSTILE)]},1,{50 - place}\n" for place, name in enumerate(HOSTILE)
+        )
+        scenarios = '[[scenario]]\nname = "total"\ncut = 100\n' + "".join(
+            f"[[scenario.loss]]\nbank = '''{name}'''\namount = {place}\n" for place, name in enumerate(HOSTILE)
+        )
+        files: List[Word] = ["--banks", self.file("banks.csv", banks), "--debts", self.file("debts.csv", debts)]
+        return files, self.file("s.toml", scenarios)
 
     def sums_anew(self, folder: pathlib.Path) -> None:
         """Has the checksums of all that is in a folder."""

@@ -21,6 +21,14 @@ ODD_NAMES: List[str] = [
 ]
 """Names that a shell, a spreadsheet, a document or a careless reader of lines may take for something else."""
 
+ODD_FIELDS: List[str] = [
+    # Numbers in other forms, or greater than any may be.
+    "", " ", "0", "00", "7", " 7\t", "1,000", "1.000", "-7", "+7", "1e3", "٣", "9" * 20, "1000001",
+    # A rule and a name that are none, quotes and ends of lines.
+    "order", "Order", "x" * 65, "A", '"', "a\rb", "\0", "#",
+]
+"""What is put in the place of a field of a file, by the tests that alter files."""
+
 DASHED: List[str] = ["-", "--", "-A", "--bank=A"]
 """Names that a command line may take for options."""
 

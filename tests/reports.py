@@ -6,7 +6,6 @@ where one of them is not there."""
 import html.parser
 import os
 import pathlib
-import time
 import unittest
 from decimal import Decimal
 from typing import Dict, Iterable, Iterator, List, Mapping, Optional, Sequence, Tuple
@@ -16,7 +15,7 @@ from common import TWELVE, Case, Word, clearing, files_of, python_with, tool
 from odd_names import MARKUP, ODD_NAMES, all_names, untrimmed
 
 __all__ = [
-    "PYTHON", "TWELVE", "InTheBrowser", "Reader", "Report", "amount", "files_of", "is_running", "largest",
+    "PYTHON", "TWELVE", "InTheBrowser", "Reader", "Report", "amount", "files_of", "largest",
     "networks_of_every_character", "odd_net", "outside_net", "ring_with_outside", "rows_of",
 ]
 PYTHON = python_with("jinja2")
@@ -89,20 +88,6 @@ def amount(units: str, unit: str) -> str:
     """A number of units as the page has it, where a unit is worth so much."""
     worth = Decimal(unit).normalize()
     return f"{int(units) * worth:,.{max(0, -int(worth.as_tuple().exponent))}f}"
-
-
-def is_running(process: int) -> bool:
-    """Whether a process is there and has not ended; one that was killed may take a moment."""
-    deadline = time.monotonic() + 5
-    while time.monotonic() < deadline:
-        try:
-            state = pathlib.Path(f"/proc/{process}/stat").read_bytes().rpartition(b")")[2].split()[0]
-        except OSError:
-            return False
-        if state == b"Z":
-            return False
-        time.sleep(0.02)
-    return True
 
 
 class Reader(html.parser.HTMLParser):

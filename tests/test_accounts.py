@@ -9,8 +9,10 @@ import sys
 import tempfile
 import types
 import unittest
+from typing import Any, List, Tuple
 
 from common import PACKAGES, PROGRAM, ROOT, needs
+from desk import account_of
 
 sys.path.insert(0, str(PACKAGES))
 sys.path.append(str(ROOT / "tests/system"))
@@ -58,16 +60,10 @@ console.log(JSON.stringify(found));
 """
 
 
-def account_of(base, cleared, bank, made=accounts):
-    """The account of a bank in a state, by a module of accounts."""
-    owes, owed = made.debts_by(base, cleared)
-    return made.account_by(base, cleared, bank, owes, owed.get(bank, []))
-
-
 class Asked:
     """A network drawn at random, a state of it, and what the program and the model say of that."""
 
-    def __init__(self, runs, folder, number):
+    def __init__(self, runs: Any, folder: pathlib.Path, number: int) -> None:
         rng = random.Random(7000 + number)
         net = networks.drawn_net(rng)
         (folder / "banks.csv").write_text(model.banks_text(net, True), encoding="utf-8")
@@ -84,12 +80,12 @@ class Asked:
         self.before = desk.cleared(states.AS_IT_IS)
         model.forget()
 
-    def lacks(self, bank):
+    def lacks(self, bank: int) -> int:
         """What the model says that a bank has left: below 0 what it lacks."""
         (_, _, outside, on_debts, equity), _ = model.cost_standing(self.left, self.keep, self.paid, bank)
         return equity - (self.net.owed[bank] - on_debts) - (self.net.banks[bank].outside - outside)
 
-    def unpaid(self, bank):
+    def unpaid(self, bank: int) -> List[Tuple[str, int, int]]:
         """What each debtor leaves unpaid of its claims, by the model: its place, the claims and what is paid."""
         sums = {}
         for x in self.net.columns[bank]:
@@ -98,7 +94,7 @@ class Asked:
             one[1] += self.paid[x]
         return sorted((debtor, claim, paid) for debtor, (claim, paid) in sums.items() if paid < claim)
 
-    def faults(self, bank, account):
+    def faults(self, bank: int, account: Any) -> List[str]:
         """What of the account of a bank does not add up, or is not what the model says."""
         one, claims = self.net.banks[bank], sum(self.net.debts[x].claim for x in self.net.columns[bank])
         (_, lost, *_), _ = model.cost_standing(self.left, self.keep, self.paid, bank)
@@ -187,7 +183,7 @@ class Accounts(unittest.TestCase):
                 exec(compile(text.replace(old, new), what, "exec"), made.__dict__)
                 self.assertTrue(any(self.is_told(asked, made) for asked in self.asked))
 
-    def is_told(self, asked, made):
+    def is_told(self, asked: Asked, made: Any) -> bool:
         """Whether the accounts of a network by this module are told to be wrong: by itself, or by the model."""
         found = asked.found
         if made.account_by.__code__.co_filename == "no test at the end":

@@ -4,9 +4,10 @@ import random
 import statistics
 import sys
 import unittest
+from typing import Any, Dict, Iterator, List, Tuple
 
-from analyses import AnalysisCase, records
-from common import ROOT, files_of
+from analyses import AnalysisCase
+from common import ROOT, files_of, records
 
 sys.path.insert(0, str(ROOT / "tests/system"))
 import model  # noqa: E402
@@ -24,7 +25,7 @@ class Solver:
     """How banks stand by the least payments of the plain model, which are those of its quicker ways, as the networks
     are large."""
 
-    def __init__(self, banks, debts):
+    def __init__(self, banks: bytes, debts: bytes) -> None:
         self.net = audit.read_network(banks, debts)
         self.cash = [bank.cash for bank in self.net.banks]
         banks = [model.Bank(bank.name.decode(), bank.cash, bank.rule, bank.outside) for bank in self.net.banks]
@@ -33,18 +34,18 @@ class Solver:
         quick.least(self.plain)
 
     @functools.lru_cache(maxsize=None)
-    def standings(self, cash):
+    def standings(self, cash: Tuple[int, ...]) -> List[Tuple[int, Tuple[int, ...], str]]:
         """For each bank what it keeps and how it stands, with this cash."""
         paid = quick.least(model.with_cash(self.plain, lambda i, bank: cash[i]))
         net = audit.Network([bank._replace(cash=units) for bank, units in zip(self.net.banks, cash)], self.net.debts)
         return [(numbers[1] + numbers[4], numbers, state) for numbers, state in audit.standings(net, paid)]
 
-    def after(self, cut=0, losses={}):
+    def after(self, cut: int = 0, losses: Dict[int, int] = {}) -> List[Tuple[int, Tuple[int, ...], str]]:
         return self.standings(tuple(max(0, c - c * cut // 1000 - losses.get(i, 0)) for i, c in enumerate(self.cash)))
 
 
 class Analysis(AnalysisCase):
-    def solver(self, words):
+    def solver(self, words: List[Any]) -> Solver:
         return Solver(words[1].read_bytes(), words[3].read_bytes())
 
     def test_the_help_of_impact_says_what_the_program_calls_a_column(self):
@@ -151,7 +152,7 @@ class Analysis(AnalysisCase):
             with self.subTest(network=name):
                 self.check_draws(words)
 
-    def check_draws(self, words):
+    def check_draws(self, words: List[Any]) -> None:
         solver = self.solver(words)
         names = [bank.name.decode() for bank in solver.net.banks]
         past = self.file(
@@ -278,7 +279,7 @@ class Once(unittest.TestCase):
 
         times = 0
 
-        def __iter__(self):
+        def __iter__(self) -> Iterator[Any]:
             self.times += 1
             return super().__iter__()
 

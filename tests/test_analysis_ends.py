@@ -7,9 +7,10 @@ import sys
 import threading
 import time
 import unittest.mock
+from typing import Any
 
-from analyses import ASKED, AnalysisCase, is_running
-from common import PROGRAM, ROOT
+from analyses import ASKED, AnalysisCase
+from common import PROGRAM, ROOT, comes, is_running
 
 from clearing_tools import runner
 
@@ -69,20 +70,14 @@ class Ends(AnalysisCase):
                 output,
                 start_new_session=True,
             )
-            deadline = time.monotonic() + 30
-            while not begun.exists() and time.monotonic() < deadline:
-                time.sleep(0.02)
+            self.until(begun.exists)
             sent = time.monotonic()
             running.send_signal(signal.SIGINT)
             self.assertEqual(running.wait(30), 130)
             self.assertLess(time.monotonic() - sent, 20)
             self.assertFalse(output.exists())
             # What is ended may take a moment to be gone.
-            while (
-                left := [number for number in begun.read_text().split() if is_running(number)]
-            ) and time.monotonic() - sent < 20:
-                time.sleep(0.05)
-            self.assertEqual(left, [])
+            self.until(lambda: not any(map(is_running, begun.read_text().split())), 20)
 
     def test_an_interrupt_while_a_run_is_begun_leaves_none(self):
         """By both packages: a signal that comes as soon as the new process is there, before Popen has answered."""
@@ -125,7 +120,7 @@ else:
 
         asking, started, begun, ended = runner.ProgramRuns(), threading.Event(), [], []
 
-        def work(item):
+        def work(item: Any) -> None:
             if item == "fault":
                 started.wait(10)
                 raise Fault
@@ -141,7 +136,7 @@ else:
         asking, sent = runner.ProgramRuns(), time.monotonic()
         begun = self.folder / "begun"
 
-        def run(item):
+        def run(item: Any) -> None:
             if item == "fault":
                 while not begun.exists():
                     time.sleep(0.01)
@@ -188,9 +183,7 @@ else:
                 stderr=subprocess.PIPE,
                 start_new_session=True,
             )
-            deadline = time.monotonic() + 30
-            while len(list(place.glob("*/*"))) < 1 + tries % 2 and time.monotonic() < deadline:
-                time.sleep(0.01)
+            comes(lambda: len(list(place.glob("*/*"))) > tries % 2, 30)
             for _ in range(1 + tries % 3):
                 (os.kill if tries % 2 else os.killpg)(running.pid, signal.SIGINT if tries % 4 == 2 else signal.SIGTERM)
             output, messages = running.communicate(timeout=30)

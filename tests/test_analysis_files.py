@@ -5,6 +5,7 @@ import shutil
 import subprocess
 import sys
 import unittest
+from typing import Any, Iterator
 
 from analyses import AnalysisCase
 from common import PROGRAM, file_of, run_of, tool
@@ -14,7 +15,7 @@ from clearing_tools.drawing import style
 
 
 class Files(AnalysisCase):
-    def writers(self):
+    def writers(self) -> Iterator[Any]:
         """Each tool, with each option that names a file of records to write."""
         for command, options in zip(
             self.commands(),
@@ -112,12 +113,12 @@ class Files(AnalysisCase):
         kinds = []
 
         class Figure:
-            def savefig(self, part, **more):
+            def savefig(self, part: Any, **more: Any) -> None:
                 kinds.append(more["format"])
                 part.write(b"new")
 
         class Broken:
-            def savefig(self, part, **more):
+            def savefig(self, part: Any, **more: Any) -> None:
                 part.write(b"half")
                 raise ValueError("no such picture")
 

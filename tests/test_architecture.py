@@ -1,11 +1,13 @@
 """The picture of the architecture is that of crates.txt and the sources as they are; neither has anything that nothing
 uses, and each lemma says in words what it states."""
 import collections
+import pathlib
 import re
 import shutil
 import subprocess
 import unittest
 import xml.etree.ElementTree as xml
+from typing import Dict, List, Set
 
 from common import ROOT, Case, loaded, tool
 
@@ -25,7 +27,7 @@ HEAD = re.compile(
 )
 
 
-def code_of(path):
+def code_of(path: pathlib.Path) -> str:
     """A file without its comments, its imports and its contracts."""
     lines = path.read_text(encoding="utf-8").splitlines()
     return "\n".join(line for line in lines if not re.match(r" *(//|(ghost )?(pub )?use |requires |ensures )", line))
@@ -95,7 +97,7 @@ class Picture(unittest.TestCase):
 class Layout(Case):
     """The toolchain's layout of files, without which `rt ci` refuses a crate however well it is proved."""
 
-    def changed_by(self, crate):
+    def changed_by(self, crate: str) -> List[str]:
         """What `rt fmt` changes in a copy of a crate."""
         words = ["rt", "fmt"]
         done = subprocess.run(words, cwd=self.folder / "crates" / crate, capture_output=True, encoding="utf-8")
@@ -202,7 +204,7 @@ class Comments(unittest.TestCase):
         self.assertEqual(without_comment(lines), ["5: second", "13: third", "19: fourth"])
 
 
-def without_comment(lines):
+def without_comment(lines: List[str]) -> List[str]:
     """The lemmas and definitions of a file of proofs that have no comment on the line above them. Those are in no
     record and in no `where`: they begin at the left, or in a module two columns for each module round them."""
     lost, above, open_blocks = [], "", []
@@ -220,13 +222,13 @@ def without_comment(lines):
     return lost
 
 
-def listed():
+def listed() -> Dict[str, List[str]]:
     """What crates.txt lists for each crate: crates of the repository and of the toolchain."""
     lines = [line.split("#")[0] for line in (ROOT / "crates.txt").read_text(encoding="utf-8").splitlines()]
     return {name.split()[0]: crates.split() for name, crates in (line.split(":") for line in lines if line.strip())}
 
 
-def named_in(crate):
+def named_in(crate: str) -> Set[str]:
     """The crates that the sources, definitions and proofs of a crate name, among other words before two colons."""
     files = [
         path
@@ -238,7 +240,7 @@ def named_in(crate):
     return {name for pair in re.findall(r"\bRattle\.(\w+)\.|\b(\w+)::", text) for name in pair}
 
 
-def unnamed(crates):
+def unnamed(crates: pathlib.Path) -> List[str]:
     """The definitions and lemmas that a file of specs/ or proofs/ offers to others, and that only the lines that
     begin with their names name. The parts of a record are not looked for, since a tactic reads them without their
     names."""

@@ -317,9 +317,7 @@ class Ending(Case):
                 stderr=subprocess.DEVNULL,
                 start_new_session=True,
             )
-            deadline = time.monotonic() + 60
-            while not (self.folder / "seen").exists() and time.monotonic() < deadline:
-                time.sleep(0.02)
+            self.until((self.folder / "seen").exists)
             time.sleep(0.2)
             running.send_signal(number)
             running.wait(60)

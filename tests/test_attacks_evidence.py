@@ -12,8 +12,9 @@ import sys
 import time
 import unittest
 import unittest.mock
+from typing import Any, Tuple
 
-from common import PACKAGES, ROOT
+from common import PACKAGES, ROOT, Word
 from evidences import EvidenceCase, evidence
 
 from clearing_tools.evidence import audit, checking, layout, plain_files, source  # noqa: E402
@@ -26,7 +27,7 @@ CONFINED = ROOT / "python/src/clearing_tools/evidence/confined.py"
 class Commands(EvidenceCase):
     """What may stand in source/command.tsv."""
 
-    def made(self):
+    def made(self) -> pathlib.Path:
         self.file("m.csv", SHEET)
         self.file("table.csv", "bank,cash\nA,3\nB,5\n")
         folder = self.folder / "evidence"
@@ -35,7 +36,7 @@ class Commands(EvidenceCase):
         self.assertEqual((done.returncode, done.stderr), (0, b""))
         return folder
 
-    def checked(self, folder, text):
+    def checked(self, folder: pathlib.Path, text: str) -> Tuple[int, str]:
         (folder / "source/command.tsv").write_bytes(text.encode() if isinstance(text, str) else text)
         self.sums_anew(folder)
         done = evidence("check", folder, timeout=120)
@@ -135,7 +136,7 @@ class Commands(EvidenceCase):
 class Confined(EvidenceCase):
     """The tool that makes the files of somebody else's sheets."""
 
-    def confined(self, *words, **more):
+    def confined(self, *words: Word, **more: Any) -> "subprocess.CompletedProcess[str]":
         return subprocess.run(
             [sys.executable, "-IB", str(CONFINED), *map(str, words)],
             cwd=self.folder,
@@ -301,7 +302,7 @@ class Sizes(EvidenceCase):
         copy = self.folder / "copy"
         copy.mkdir()
 
-        def full(file, block):
+        def full(file: Any, block: Any) -> None:
             raise plain_files.NoRoomError("No space left on device")
 
         with unittest.mock.patch.object(plain_files, "write_copy", full), self.assertRaises(plain_files.NoRoomError):
@@ -330,7 +331,7 @@ class Sizes(EvidenceCase):
         seen, real = [], checking.runner.Limits.put_on
         inner = []
 
-        def put_on(limits, process=0):
+        def put_on(limits: Any, process: int = 0) -> Any:
             seen.append((pathlib.Path(f"/proc/{process}/cmdline").read_bytes().split(b"\0")[-4:], limits))
             inner.append(resource.getrlimit(resource.RLIMIT_AS)[0])
             return real(limits, process)

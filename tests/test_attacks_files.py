@@ -13,8 +13,9 @@ import threading
 import time
 import unittest
 import unittest.mock
+from typing import Any, Iterator, List
 
-from common import CHAIN, HUB, PROGRAM, ROOT, Case, files_of, tool
+from common import CHAIN, HUB, PROGRAM, ROOT, Case, Word, files_of, tool
 
 from clearing_tools import files  # noqa: E402
 from clearing_tools.evidence import shock  # noqa: E402
@@ -24,12 +25,12 @@ ANOTHER = 54321
 FILES = files_of(HUB)
 
 
-def writers():
+def writers() -> Iterator[Any]:
     """The ways in which a tool writes a file of a name."""
     yield lambda name: files.write_all({name: "new\n"})
     yield lambda name: files.put("new\n", name)
 
-    def by_shock(name):
+    def by_shock(name: pathlib.Path) -> None:
         try:
             shock.write(os.fspath(name), b"new\n")
         except shock.ScenarioError as fault:
@@ -38,12 +39,12 @@ def writers():
     yield by_shock
 
 
-def permitted(path):
+def permitted(path: pathlib.Path) -> int:
     return stat.S_IMODE(path.stat().st_mode)
 
 
 class Planted(Case):
-    def others(self, path):
+    def others(self, path: pathlib.Path) -> None:
         """Has a link or a pipe be another user's."""
         if os.geteuid() == 0:
             os.chown(path, ANOTHER, ANOTHER, follow_symlinks=False)
@@ -100,7 +101,7 @@ class Planted(Case):
         victim = self.file("victim", "kept\n")
         target, real = self.file("target", "old\n"), os.link
 
-        def planted(source, name, **more):
+        def planted(source: Any, name: Any, **more: Any) -> Any:
             os.symlink(victim, name, dir_fd=more["dst_dir_fd"])
             return real(source, name, **more)
 
@@ -109,7 +110,7 @@ class Planted(Case):
                 files.write_all({target: "new\n"})
         self.assertEqual((victim.read_text(), target.read_text()), ("kept\n", "old\n"))
 
-    def exchange(self, way, victim, until):
+    def exchange(self, way: pathlib.Path, victim: pathlib.Path, until: Any) -> None:
         """Has a folder be a link of another user to a victim's, and a folder of his, in turn, as fast as can be."""
         link = self.folder / "link-aside"
         link.symlink_to(victim)
@@ -130,7 +131,7 @@ class Planted(Case):
             between = "mask_of" if hasattr(files, "mask_of") else "mode_of_new"
             real, done = getattr(files, between), []
 
-            def exchanged(*words):
+            def exchanged(*words: Any) -> Any:
                 if not done:
                     done.append(way.rename(self.folder / "aside"))
                     way.symlink_to(victim)
@@ -313,7 +314,7 @@ class BelowDev(unittest.TestCase):
 
 
 class WhoMayRead(Case):
-    def private(self):
+    def private(self) -> List[Word]:
         banks, debts = self.file("banks.csv", (HUB / "banks.csv").read_bytes()), self.file(
             "debts.csv", (HUB / "debts.csv").read_bytes()
         )
@@ -327,55 +328,41 @@ class WhoMayRead(Case):
 
     def test_what_is_made_of_files_that_are_not_for_all_is_not_for_all(self):
         net = self.private()
-        for name, words, made in [
-            ("clearing-breaking", ["--output"], "breaking.csv"),
-            ("clearing-impact", ["--matrix"], "impact.csv"),
-            ("clearing-rescues", ["--output"], "rescues.csv"),
-            ("clearing-to-matrix", ["--out"], "matrix.csv"),
-            ("clearing-report", ["--out"], "report.html"),
-        ]:
-            done = tool(name, *net, *words, self.folder / made)
-            self.assertEqual(done.returncode, 0, (name, done.stderr))
-            self.assertEqual(oct(permitted(self.folder / made)), "0o600", name)
         scenarios = self.file("s.toml", '[[scenario]]\nname = "a"\n')
-        done = tool(
-            "clearing-shock", *net[:2], "--scenarios", scenarios, "--scenario", 1, "--output", self.folder / "left.csv"
-        )
-        self.assertEqual((done.returncode, oct(permitted(self.folder / "left.csv"))), (0, "0o600"), done.stderr)
-        made = subprocess.run(
-            [str(ROOT / "bin/clearing-evidence"), "make", self.folder / "evidence", *map(str, net)], capture_output=True
-        )
+        for name, words, made in [
+            ("clearing-breaking", [*net, "--output"], "breaking.csv"),
+            ("clearing-impact", [*net, "--matrix"], "impact.csv"),
+            ("clearing-rescues", [*net, "--output"], "rescues.csv"),
+            ("clearing-to-matrix", [*net, "--out"], "matrix.csv"),
+            ("clearing-report", [*net, "--out"], "report.html"),
+            ("clearing-shock", [*net[:2], "--scenarios", scenarios, "--scenario", 1, "--output"], "left.csv"),
+        ]:
+            with self.subTest(name=name):
+                done = tool(name, *words, self.folder / made)
+                self.assertEqual(done.returncode, 0, done.stderr)
+                self.assertEqual(oct(permitted(self.folder / made)), "0o600")
+
+    def test_a_folder_of_evidence_of_such_files_is_not_for_all(self):
+        folder = self.folder / "evidence"
+        made = tool("clearing-evidence", "make", folder, *self.private())
         self.assertEqual(made.returncode, 0, made.stderr)
-        self.assertEqual(oct(permitted(self.folder / "evidence")), "0o700")
-        for path in (self.folder / "evidence").rglob("*"):
+        self.assertEqual(oct(permitted(folder)), "0o700")
+        for path in folder.rglob("*"):
             self.assertEqual(permitted(path) & 0o077, 0, path)
-        jobs = self.file(
-            "jobs.tsv",
-            "\t".join(["a", "check", *map(str, net)])
-            + "\n"
-            + "\t".join(["b", "check", f"--banks={net[1]}", *map(str, net[2:])])
-            + "\n"
-            + "\t".join(["c", "check", *map(str, FILES)])
-            + "\n"
-            + "\t".join(["d", "check", *map(str, net), "--bad"])
-            + "\n",
-        )
-        subprocess.run(
-            [str(ROOT / "bin/clearing-many"), "run", str(jobs), str(self.folder / "many"), "1"], capture_output=True
-        )
+
+    def test_of_many_jobs_those_of_such_files_are_not_for_all(self):
+        net = list(map(str, self.private()))
+        jobs = [
+            ["a", "check", *net],
+            ["b", "check", f"--banks={net[1]}", *net[2:]],
+            ["c", "check", *map(str, FILES)],
+            ["d", "check", *net, "--bad"],
+        ]
+        text = "".join("\t".join(job) + "\n" for job in jobs)
+        tool("clearing-many", "run", self.file("jobs.tsv", text), self.folder / "many", 1)
         modes = {path.name: oct(permitted(path)) for path in (self.folder / "many").iterdir()}
-        self.assertEqual(
-            modes,
-            {
-                "a.out": "0o600",
-                "a.job": "0o600",
-                "b.out": "0o600",
-                "b.job": "0o600",
-                "c.out": "0o644",
-                "c.job": "0o644",
-                "d.failed": "0o600",
-            },
-        )
+        private = {f"{job}.{kind}": "0o600" for job in "ab" for kind in ("out", "job")}
+        self.assertEqual(modes, {**private, "c.out": "0o644", "c.job": "0o644", "d.failed": "0o600"})
 
     def test_a_kept_mode_has_no_setuid(self):
         for write in writers():
@@ -400,9 +387,7 @@ class WhoMayRead(Case):
         )
         self.addCleanup(running.stdout.close)
         self.addCleanup(running.stderr.close)
-        deadline = time.monotonic() + 30
-        while not list(place.glob(".part-*/inputs/debts.csv")) and time.monotonic() < deadline:
-            time.sleep(0.02)
+        self.until(lambda: list(place.glob(".part-*/inputs/debts.csv")))
         time.sleep(0.3)
         running.send_signal(signal.SIGHUP)
         self.assertEqual(running.wait(60), 130)

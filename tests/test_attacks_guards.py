@@ -3,6 +3,7 @@ out."""
 import ast
 import re
 import unittest
+from typing import Any, List
 
 from common import ROOT
 
@@ -12,7 +13,7 @@ ROW = re.compile(
 
 
 class Guards(unittest.TestCase):
-    def rows(self):
+    def rows(self) -> List[Any]:
         text = (ROOT / "docs/GUARDS.md").read_text(encoding="utf-8")
         rows = list(ROW.finditer(text))
         heads = len(re.findall(r"^\|---", text, re.MULTILINE))

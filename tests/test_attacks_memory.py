@@ -5,8 +5,9 @@ import os
 import resource
 import subprocess
 import unittest
+from typing import Any, Optional, Tuple
 
-from common import HUB, PROGRAM, Case, clearing, files_of, run_of
+from common import HUB, PROGRAM, Case, Word, clearing, files_of, run_of
 from places import EachTool
 from evidences import EvidenceCase
 
@@ -15,7 +16,9 @@ from clearing_tools.evidence import audit, bounds  # noqa: E402
 FILES = files_of(HUB)
 
 
-def limited(megabytes, *words, python=None, seconds=120):
+def limited(
+    megabytes: int, *words: Word, python: Optional[str] = None, seconds: int = 120
+) -> "subprocess.CompletedProcess[str]":
     """A run of a tool that has so much memory."""
     limit = lambda: resource.setrlimit(resource.RLIMIT_AS, (megabytes << 20, megabytes << 20))
     return subprocess.run(
@@ -104,7 +107,7 @@ class Scenarios(EvidenceCase):
 
 
 class Fields(Case):
-    def judged(self, **files):
+    def judged(self, **files: Any) -> Tuple[int, str]:
         """What audit.py says of files of which one is hostile, with a tenth of the memory that it took once."""
         words = [
             word
@@ -189,7 +192,7 @@ class Endless(EachTool):
                         )
                     )
 
-        def ends(run):
+        def ends(run: Any) -> Any:
             name, words, python, given = run
             try:
                 done = limited(2500, name, *words, python=python, seconds=240)

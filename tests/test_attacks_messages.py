@@ -4,15 +4,16 @@ import os
 import subprocess
 import sys
 import unittest
+from typing import Any, Iterator
 
-from common import HUB, PROGRAM, ROOT, Case, files_of, run_of
+from common import HUB, PROGRAM, ROOT, Case, Word, files_of, run_of
 from places import EachTool, Place
 
 FILES = files_of(HUB)
 MADE_UP = "x\nchecked: all files are fine\x1b[2J\x9b1A\u202e"
 
 
-def ways(text):
+def ways(text: str) -> Iterator[Any]:
     """A text with what Python, a terminal or a reader of lines stumbles over in the place of its fields."""
     header, *rows = text.split("\n")
     yield "digits", "\n".join(
@@ -88,7 +89,7 @@ class Words(Place):
 
 
 class Streams(Case):
-    def run_closed(self, close, *words):
+    def run_closed(self, close: str, *words: Word) -> "subprocess.CompletedProcess[str]":
         environment = {**os.environ, "CLEARING": os.path.realpath(PROGRAM)}
         return subprocess.run(
             ["sh", "-c", f'exec "$@" {close}', "sh", *map(str, words)],

@@ -2,6 +2,7 @@
 which bench/tools.py times."""
 import difflib
 import unittest
+from typing import Any, Tuple
 from unittest import mock
 
 from common import Case, tool
@@ -28,7 +29,7 @@ class Formulas(Case):
 class Bounded(Case):
     """A search for a word that is like another is dear, so that few are made, however many faults there are."""
 
-    def faults(self, *files, **more):
+    def faults(self, *files: Any, **more: Any) -> Tuple[Any, int]:
         """The faults of some files, and how many searches were made for the hints on them."""
         with mock.patch("difflib.get_close_matches", wraps=difflib.get_close_matches) as searches:
             return linter.Linter(*files, **more).faults, searches.call_count

@@ -7,6 +7,7 @@ import shutil
 import subprocess
 import sys
 import unittest
+from typing import Any, Iterable, Iterator, List
 
 from common import CHAIN, HUB, PROGRAM, ROOT, Case, file_of, files_of, run_of
 
@@ -115,7 +116,7 @@ SCRIPTS = [
 ]
 
 
-def starters_in(path):
+def starters_in(path: pathlib.Path) -> Iterator[str]:
     """The functions of a file that find or start a program, by the names that they call of the modules that can."""
     tree = ast.parse(path.read_text(encoding="utf-8"))
     for function in ast.walk(tree):
@@ -151,14 +152,14 @@ class Planted(Case):
             path.write_text(PLANTED.format(self.mark))
             path.chmod(0o755)
 
-    def plant(self, names):
+    def plant(self, names: Iterable[str]) -> None:
         """Plants more commands in the working folder, and in a folder of it."""
         for name in names:
             for path in (self.work / name, self.work / "bin" / name):
                 path.write_text(f"#!/bin/sh\n/usr/bin/touch '{self.mark}'\necho planted\n")
                 path.chmod(0o755)
 
-    def run_in(self, folder, words, **variables):
+    def run_in(self, folder: pathlib.Path, words: List[Any], **variables: str) -> "subprocess.CompletedProcess[str]":
         own = {key: value for key, value in os.environ.items() if key not in ("CLEARING", "PYTHONPATH")}
         return subprocess.run(
             [str(word) for word in words],
@@ -169,7 +170,7 @@ class Planted(Case):
             encoding="utf-8",
         )
 
-    def package(self, place):
+    def package(self, place: pathlib.Path) -> pathlib.Path:
         """The packages for Python alone, in another place."""
         for name in ("clearing_client", "clearing_tools"):
             shutil.copytree(ROOT / "python/src" / name, place / name, ignore=shutil.ignore_patterns("__pycache__"))

@@ -7,11 +7,11 @@ import shutil
 import signal
 import stat
 import subprocess
-import time
 import unittest
+from typing import Any
 
 import test_launcher
-from common import HUB, PROGRAM, ROOT, Case, files_of
+from common import HUB, PROGRAM, ROOT, Case, Word, files_of
 
 FILES = files_of(HUB)
 
@@ -22,7 +22,7 @@ class Installing(Case):
         self.script = self.executable("program", 'echo "$*"\n')
         self.prefix = self.folder / "prefix"
 
-    def start(self, mask=0o022, **more):
+    def start(self, mask: int = 0o022, **more: Any) -> "subprocess.Popen[str]":
         environment = {**os.environ, "CLEARING": str(self.script)}
         return subprocess.Popen(
             [str(ROOT / "tools/install.sh"), str(self.prefix)],
@@ -59,9 +59,7 @@ class Installing(Case):
         (self.prefix / "bin/clearing").write_text("old\n")
         # The program to install is a pipe that is written late: by then links stand where the next files could go.
         running = self.start()
-        deadline = time.monotonic() + 60
-        while not list(self.prefix.rglob("*.new.*")) and time.monotonic() < deadline:
-            time.sleep(0.005)
+        self.until(lambda: list(self.prefix.rglob("*.new.*")))
         for path in list(self.prefix.rglob("*.new.*")):
             self.assertNotIn(str(running.pid), path.name)
         os.killpg(running.pid, signal.SIGTERM)
@@ -167,7 +165,7 @@ class Importing(Case):
 class Ended(Case):
     """A request to end ends what was begun, and leaves nothing that runs."""
 
-    def running(self):
+    def running(self) -> int:
         """How many runs of the test's program there are."""
         found = 0
         for path in pathlib.Path("/proc").glob("[0-9]*/cmdline"):
@@ -175,7 +173,7 @@ class Ended(Case):
                 found += str(self.folder).encode() + b"/clearing" in path.read_bytes()
         return found
 
-    def start(self, *words):
+    def start(self, *words: Word) -> "subprocess.Popen[str]":
         self.program('echo begun >>"$BEGUN"\nwhile :; do sleep 0.2; done\n')
         environment = {**os.environ, "BEGUN": str(self.folder / "begun")}
         environment.pop("MANY_SESSION", None)
@@ -192,13 +190,9 @@ class Ended(Case):
         self.addCleanup(running.stderr.close)
         return running
 
-    def begun(self, count):
-        deadline = time.monotonic() + 60
-        while time.monotonic() < deadline:
-            if (self.folder / "begun").exists() and len((self.folder / "begun").read_text().split()) >= count:
-                return
-            time.sleep(0.02)
-        self.fail("the jobs did not begin")
+    def begun(self, count: int) -> None:
+        begun = self.folder / "begun"
+        self.until(lambda: begun.exists() and len(begun.read_text().split()) >= count)
 
     def test_a_signal_ends_all_jobs_and_what_is_left_is_counted(self):
         jobs = self.file("jobs.tsv", "".join(f"job-{at}\tgen\t{at}\n" for at in range(20)))
@@ -245,7 +239,7 @@ class Ended(Case):
 class Prefixes(Installing):
     locals().update({name: None for name in vars(Installing) if name.startswith("test_")})
 
-    def run_it(self, prefix):
+    def run_it(self, prefix: Word) -> "subprocess.CompletedProcess[str]":
         return subprocess.run(
             [str(ROOT / "tools/install.sh"), str(prefix)],
             env={**os.environ, "CLEARING": str(self.script)},

@@ -2,9 +2,10 @@
 import itertools
 import random
 import sys
+from typing import Any, Dict, Iterator, List, Sequence, Tuple
 from unittest import mock
 
-from common import ROOT, Case, clearing, tool
+from common import ROOT, Case, Word, clearing, records, tool
 
 sys.path.insert(0, str(ROOT / "tests/system"))
 import model  # noqa: E402
@@ -33,11 +34,11 @@ CHANGES = {
 }
 
 
-def plus(field, units):
+def plus(field: str, units: int) -> str:
     return str(int(field) + units)
 
 
-def altered(name, text):
+def altered(name: str, text: str) -> Iterator[Tuple[Any, str]]:
     """The place of a field and the text with another field there, for each field of a file and each change of it."""
     lines = text.removesuffix("\n").split("\n")
     words = lines[0].split(",")
@@ -56,25 +57,21 @@ def altered(name, text):
                     yield (row, at, other), "\n".join([*lines[:row], ",".join(new), *lines[row + 1 :]]) + "\n"
 
 
-def model_of(banks, debts, journal):
+def model_of(banks: str, debts: str, journal: str) -> Tuple[Any, List[Tuple[int, int, int]]]:
     """The network and the raises for the plain model. Only of files that are in form."""
-    banks = [model.Bank(name, int(cash), rule, int(outside)) for name, cash, rule, outside in fields_of(banks)]
+    banks = [model.Bank(name, int(cash), rule, int(outside)) for name, cash, rule, outside in records(banks)]
     places = {bank.name: place for place, bank in enumerate(banks)}
     debts = [
-        model.Debt(places[one], places[other], int(cls), int(claim)) for one, other, cls, claim in fields_of(debts)
+        model.Debt(places[one], places[other], int(cls), int(claim)) for one, other, cls, claim in records(debts)
     ]
     seat = {debt[:3]: x for x, debt in enumerate(debts)}
-    lines = [fields for fields in fields_of(journal) if fields[0] != "rounds"]
+    lines = [fields for fields in records(journal) if fields[0] != "rounds"]
     raises = [(int(stamp), seat[places[one], places[other], int(cls)], int(to)) for stamp, one, other, cls, to in lines]
     return model.Net(banks, debts), raises
 
 
-def fields_of(text):
-    return [line.split(",") for line in text.removesuffix("\n").split("\n")[1:]]
-
-
 class Audit(Case):
-    def made_files(self, banks, debts, *more):
+    def made_files(self, banks: str, debts: str, *more: Word) -> Dict[str, str]:
         """The two files, and the journal, the payments and the defaults that the program prints of them."""
         words = ["--banks", self.file("banks.csv", banks), "--debts", self.file("debts.csv", debts)]
         return {
@@ -85,13 +82,13 @@ class Audit(Case):
             "defaults": self.printed("defaults", *words),
         }
 
-    def judged(self, files):
+    def judged(self, files: Dict[str, str]) -> Tuple[List[str], int]:
         return audit.judge({name: text.encode() for name, text in files.items()})
 
-    def words(self, files):
+    def words(self, files: Dict[str, str]) -> List[Word]:
         return [word for name, text in files.items() for word in (f"--{name}", self.file(f"{name}.csv", text))]
 
-    def replayed(self, files):
+    def replayed(self, files: Dict[str, str]) -> Tuple[int, str, str]:
         """The status of a replay by the program, its first line or its message, and the payments."""
         done = clearing("replay", *self.words({name: files[name] for name in ("banks", "debts", "journal")}))
         verdict, _, payments = done.stdout.decode().partition("\n\n")
@@ -266,7 +263,7 @@ class Audit(Case):
         raises = raises_of(net)
         single = 0
 
-        def counted(division, turns=audit.Division.one_by_one):
+        def counted(division: Any, turns: Any = audit.Division.one_by_one) -> None:
             nonlocal single
             for turn in turns(division):
                 single += 1
@@ -279,7 +276,9 @@ class Audit(Case):
         self.assertLess(single, units / 10)
 
 
-def small_network(chance, banks, debts, claims, cash, outside):
+def small_network(
+    chance: random.Random, banks: int, debts: int, claims: Sequence[int], cash: int, outside: int
+) -> Any:
     """A network with banks of all six rules, debts in classes 1 to 3 with claims of up to one of these, and outside
     debts."""
     rules = [model.RULES[at % 6] for at in range(banks)]
@@ -294,7 +293,7 @@ def small_network(chance, banks, debts, claims, cash, outside):
     return audit.Network(rows, [audit.Debt(*pair, claim) for pair, claim in pairs.items()])
 
 
-def raises_of(net, leaps=True):
+def raises_of(net: Any, leaps: bool = True) -> List[Any]:
     """A journal in which all banks pay in turn, as much as they may, until nobody can pay more."""
     dividing, paid, has, raises, stamp = (
         audit.divisions(net, leaps),
@@ -316,14 +315,14 @@ def raises_of(net, leaps=True):
             return raises
 
 
-def leaping(rule, debts):
+def leaping(rule: Any, debts: Any) -> Any:
     """A division that takes a leap wherever it can, however few units are missing."""
     division = audit.Division(rule, debts)
     division.many = 0
     return division
 
 
-def first_difference(seed, many=300):
+def first_difference(seed: int, many: int = 300) -> Any:
     """Divides by leaps and one by one, by each rule in turn, up to more and more units; the first case in which the
     two differ."""
     chance = random.Random(seed)

@@ -4,6 +4,7 @@ import pathlib
 import shutil
 import subprocess
 import unittest
+from typing import Any, List, Tuple
 
 from common import ROOT, Case
 
@@ -44,7 +45,9 @@ class BuildTimes(Case):
                 "#[test]\nfn shows() {}\n" if name == "top" else "\n"
             )
 
-    def run_with(self, *words, faulty="", **more):
+    def run_with(
+        self, *words: str, faulty: str = "", **more: Any
+    ) -> Tuple["subprocess.CompletedProcess[str]", List[str]]:
         self.calls = self.file("calls", "")
         environment = {
             **os.environ,

@@ -1,10 +1,12 @@
 """A case: a folder that keeps a network and what belongs to it, and what is refused of one."""
 import json
 import os
+import pathlib
 import shutil
 import unittest
 import unittest.mock
 from decimal import Decimal
+from typing import Any, Callable, Dict
 
 from common import CHAIN, Case as TestCase, needs, needs_packages
 
@@ -32,7 +34,7 @@ WHOLE = {
 }
 
 
-def two_banks():
+def two_banks() -> cc.Network:
     return cc.Network({"A": 7, "B": 1}, {("A", "B"): 10})
 
 
@@ -41,12 +43,12 @@ class Folders(TestCase):
         super().setUp()
         self.place = self.folder / "case"
 
-    def written(self, **more):
+    def written(self, **more: Any) -> cc.Case:
         case = cc.Case(two_banks(), **more)
         case.write(self.place)
         return case
 
-    def changed(self, change):
+    def changed(self, change: Callable[[Any], None]) -> None:
         """The folder with a description that was changed."""
         path = self.place / "datapackage.json"
         document = json.loads(path.read_text(encoding="utf-8"))
@@ -99,7 +101,7 @@ class Reading(Folders):
     def test_keys_of_others_are_kept_and_unknown_ones_of_ours_told(self):
         self.written()
 
-        def change(document):
+        def change(document: Any) -> None:
             document["licenses"] = [{"name": "CC0"}]
             document["resources"][0]["title"] = "Banks"
             document["clearing"]["colour"] = "red"
@@ -237,7 +239,7 @@ class Refused(Folders):
         (self.folder / "else" / "a.csv").write_text("secret")
         looked = case_of_package.is_file_in
 
-        def exchanged(place, path):
+        def exchanged(place: Any, path: str) -> Any:
             found = looked(place, path)
             if path.startswith("sources/") and not os.path.islink(self.place / "sources"):
                 os.rename(self.place / "sources", self.place / "before")
@@ -306,7 +308,7 @@ class Writing(Folders):
         made = cc.Case(two_banks(), title="Two", sources=sources)
         made.write(self.place, sources=sheets)
 
-        def files(place):
+        def files(place: pathlib.Path) -> Dict[str, bytes]:
             return {
                 path.relative_to(place).as_posix(): path.read_bytes() for path in place.rglob("*") if path.is_file()
             }

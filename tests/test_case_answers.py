@@ -5,6 +5,7 @@ import tomllib
 import unittest
 import warnings
 from decimal import Decimal
+from typing import Any, Dict, List
 
 import common
 from common import TWELVE, Case, needs_packages
@@ -16,11 +17,11 @@ BANKS = [("A", 7, "webster"), ("B", 1, "webster"), ("C", 0, "webster"), ("D", 9,
 DEBTS = [("A", "B", 1, 7), ("B", "C", 1, 8), ("D", "A", 1, 2)]
 
 
-def network(banks=BANKS, debts=DEBTS):
+def network(banks: Any = BANKS, debts: Any = DEBTS) -> cc.Network:
     return cc.Network(banks, debts)
 
 
-def one_unit(more=0):
+def one_unit(more: int = 0) -> cc.Network:
     """A network in which one unit decides over B and C, unless A and B have more."""
     banks = [("A", 1 + more, "webster"), ("B", 1 + more, "webster"), ("C", 0, "webster")]
     return cc.Network(banks, [("A", "B", 1, 1), ("B", "C", 1, 2)])
@@ -114,7 +115,7 @@ class Compared(Case):
 
 
 class Many(Case):
-    def nets(self):
+    def nets(self) -> List[cc.Network]:
         return [network([("A", cash, "webster"), *BANKS[1:]]) for cash in (3, 4, 5, 6, 7)]
 
     def test_numbers_are_spread_and_defaults_counted(self):
@@ -285,7 +286,7 @@ class Shocks(Case):
         self.place = self.folder / "case"
         cc.Case(cc.Network(TWELVE / "banks.csv", TWELVE / "debts.csv"), unit="1000", currency="EUR").write(self.place)
 
-    def scenarios(self):
+    def scenarios(self) -> List[Dict[str, Any]]:
         return tomllib.loads((self.place / "scenarios.toml").read_text())["scenario"]
 
     def test_amounts_become_units_and_what_is_rounded_is_told(self):

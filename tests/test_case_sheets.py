@@ -6,10 +6,11 @@ import shutil
 import sys
 import unittest
 import unittest.mock
+from typing import Any
 
 import sheets
 import test_workbook_attacks as workbooks
-from common import ROOT, Case, needs_packages
+from common import ROOT, Case, Word, needs_packages
 from evidences import evidence
 
 import clearing_client as cc
@@ -22,14 +23,14 @@ LEI = {"529900T8BM49AURSDO55": "Nord, AG", "5493001KJTIIGC8Y1R12": "Ost S.A.", "
 
 
 class Sheets(Case):
-    def case(self, tool, *words):
+    def case(self, tool: str, *words: Word) -> cc.Case:
         """The case that an importer makes of sheets; what it tells stands in `told`."""
         place = self.folder / "case"
         self.text = self.told(tool, *words, "--case", place, "--keep-sources", "--currency=EUR")
         self.assertEqual(self.made("clearing-case", "check", place), "the case is as it is described\n")
         return cc.Case.read(place)
 
-    def evidence_holds(self):
+    def evidence_holds(self) -> None:
         """The evidence of the case holds, with its sheets and with what banks are called."""
         # By the Python that runs the tests, which has what reads workbooks.
         path = os.pathsep.join([os.path.dirname(sys.executable), os.environ["PATH"]])
@@ -165,7 +166,7 @@ class Ways(Case):
 
     BANKS = {"many": 30}
 
-    def way(self, name):
+    def way(self, name: str) -> Any:
         """What the steps print for a set."""
         return from_sheets.done_of(sheets.SETS[name](self.folder, self.BANKS.get(name, 8)), self.folder)
 

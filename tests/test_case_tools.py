@@ -2,12 +2,14 @@
 beside decides."""
 import json
 import os
+import pathlib
 import re
 import shutil
 import unittest
+from typing import List
 
 import common
-from common import CHAIN, TWELVE, Case, files_of, needs_packages
+from common import CHAIN, TWELVE, Case, Word, files_of, needs_packages
 
 import clearing_client as cc
 
@@ -33,7 +35,7 @@ ONE_UNIT = (
 """What is told of the chain of three banks where its case is described."""
 
 
-def texts_of(picture):
+def texts_of(picture: pathlib.Path) -> List[str]:
     """The texts of a picture by matplotlib, which has them as comments beside their outlines."""
     return [f">{text}<" for text in re.findall("<!-- (.*?) -->", picture.read_text(encoding="utf-8"))]
 
@@ -43,7 +45,7 @@ class Imported(Case):
         super().setUp()
         self.place = self.folder / "case"
 
-    def make(self, *words, text=MATRIX):
+    def make(self, *words: Word, text: str = MATRIX) -> str:
         return self.told("clearing-from-matrix", self.file("m.csv", text), *SAID, *LABELS, "--case", self.place, *words)
 
     def test_a_case_has_what_the_words_and_the_sheet_say(self):

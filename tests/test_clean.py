@@ -3,6 +3,7 @@ import os
 import shutil
 import subprocess
 import unittest
+from typing import Any, Set
 
 from common import ROOT, Case
 
@@ -31,7 +32,7 @@ class Clean(Case):
             (self.root / path).parent.mkdir(parents=True, exist_ok=True)
             (self.root / path).write_text("")
 
-    def ran(self, *words, **more):
+    def ran(self, *words: str, **more: Any) -> "subprocess.CompletedProcess[str]":
         environment = {
             "PATH": "/usr/bin:/bin",
             "HOME": str(self.folder),
@@ -47,7 +48,7 @@ class Clean(Case):
             encoding="utf-8",
         )
 
-    def files(self):
+    def files(self) -> Set[str]:
         return {str(path.relative_to(self.folder)) for path in self.folder.rglob("*")}
 
     def test_what_builds_left_goes_and_all_else_stays(self):

@@ -6,6 +6,7 @@ import tempfile
 import threading
 import time
 import unittest
+from typing import Any, Callable, Optional, Tuple
 
 from common import CHAIN, Case
 
@@ -19,7 +20,7 @@ MANY = [(f"B{n}", 1, "adams") for n in range(201)]
 
 
 class Refused(Case):
-    def refused(self, call):
+    def refused(self, call: Callable[[], object]) -> Tuple[Any, ...]:
         with self.assertRaises(cc.RefusedError) as caught:
             call()
         fault = caught.exception
@@ -28,9 +29,9 @@ class Refused(Case):
         self.assertIn(f"{fault.file} row {fault.row}: {fault.kind} ({fault.number})", str(fault))
         return fault.file, fault.row, fault.kind, fault.record
 
-    def test_each_kind_of_fault_with_its_record(self):
-        net, long = Network(A_B, A_TO_B), "é" * 33
-        banks = [
+    def test_each_fault_of_a_bank_has_its_record(self):
+        long = "é" * 33
+        for table, row, kind, record in [
             ([("A", 7, "order"), ("B", "7,5", "order")], 2, "number", ("B", "7,5", "order")),
             ([("A", 7, "order"), ("B", -7, "order")], 2, "number", ("B", "-7", "order")),
             ([("A", 7, "order"), ("B", 10**12 + 1, "order")], 2, "limit", ("B", "1000000000001", "order")),
@@ -40,17 +41,15 @@ class Refused(Case):
             ([("", 7, "order")], 1, "name", ("", "7", "order")),
             ([(long, 7, "order")], 1, "name", (long, "7", "order")),
             ([(f"B{n}", 1, "adams") for n in range(1001)], 1001, "too many", ("B1000", "1", "adams")),
-        ]
-        for table, row, kind, record in banks:
+        ]:
             with self.subTest(kind=kind, row=row):
-                self.assertEqual(
-                    self.refused(Network(table, [], limits="standard").check), ("banks", row, kind, record)
-                )
-        claims = [
-            (debtor, creditor, 1, 10**6) for debtor, creditor in zip(["B0"] * 11, [f"B{n}" for n in range(1, 12)])
-        ]
+                check = Network(table, [], limits="standard").check
+                self.assertEqual(self.refused(check), ("banks", row, kind, record))
+
+    def test_each_fault_of_a_debt_has_its_record(self):
+        claims = [("B0", f"B{n}", 1, 10**6) for n in range(1, 12)]
         pairs = [(f"B{n // 200}", f"B{n % 200 + 1 if n % 200 >= n // 200 else n % 200}", 1, 0) for n in range(20_001)]
-        debts = [
+        for table, debts, row, kind in [
             (A_B, [("A", "C", 1, 1)], 1, "unknown bank"),
             (A_B, [("A", "B", 1, 1), ("A", "A", 1, 1)], 2, "self debt"),
             (A_B, [("A", "B", 0, 1)], 1, "class"),
@@ -58,24 +57,27 @@ class Refused(Case):
             (A_B, [("A", "B", 1, 10**6 + 1)], 1, "limit"),
             (MANY, claims, 11, "total"),
             (MANY, pairs, 20_001, "too many"),
-        ]
-        for table, debts, row, kind in debts:
+        ]:
             with self.subTest(kind=kind):
                 record = tuple(map(str, debts[row - 1]))
-                self.assertEqual(
-                    self.refused(Network(table, debts, limits="standard").check), ("debts", row, kind, record)
-                )
-        raises = [
+                check = Network(table, debts, limits="standard").check
+                self.assertEqual(self.refused(check), ("debts", row, kind, record))
+
+    def test_each_fault_of_a_raise_has_its_record(self):
+        net = Network(A_B, A_TO_B)
+        for journal, row, kind in [
             ([(1, "A", "B", 1, 7), (2, "A", "C", 1, 7)], 2, "unknown bank"),
             ([(1, "B", "A", 1, 7)], 1, "unknown debt"),
             ([(2**32, "A", "B", 1, 7)], 1, "limit"),
-        ]
-        for journal, row, kind in raises:
+        ]:
             with self.subTest(kind=kind):
                 record = tuple(map(str, journal[row - 1]))
                 self.assertEqual(self.refused(lambda: net.replay(journal)), ("journal", row, kind, record))
-        self.assertEqual(self.refused(lambda: net.rescue("C")), ("words", 0, "unknown bank", "C"))
-        self.assertEqual(self.refused(lambda: net.rescue(" A")), ("words", 0, "unknown bank", " A"))
+
+    def test_a_bank_that_no_network_has_is_a_fault_of_the_words(self):
+        net = Network(A_B, A_TO_B)
+        for name in ("C", " A"):
+            self.assertEqual(self.refused(lambda: net.rescue(name)), ("words", 0, "unknown bank", name))
 
     def test_files_as_they_come(self):
         debts = self.file("d.csv", "debtor,creditor,class,claim\n")
@@ -130,7 +132,9 @@ class Refused(Case):
 
 
 class Statuses(Case):
-    def raised(self, kind, script=None, call=lambda net: net.clear()):
+    def raised(
+        self, kind: Any, script: Optional[str] = None, call: Callable[[Any], object] = lambda net: net.clear()
+    ) -> Any:
         if script is not None:
             self.program(script)
         with self.assertRaises(kind) as caught:
@@ -178,7 +182,7 @@ class Statuses(Case):
         text = "debtor,creditor,class,claim,paid\\nA,B,1,10,7"
         self.raised(cc.TextError, f"printf '{text}'")
 
-    def without_program(self, net):
+    def without_program(self, net: Network) -> None:
         os.environ["CLEARING"] = str(self.folder / "none")
         net.clear()
 
@@ -193,7 +197,7 @@ class Statuses(Case):
     def test_an_interrupt_ends_the_run(self):
         self.program(f"echo $$ > {self.folder}/pid; exec sleep 60")
 
-        def interrupt():
+        def interrupt() -> None:
             while not (self.folder / "pid").exists() or not (self.folder / "pid").read_text().strip():
                 time.sleep(0.01)
             # Not before the run waits for the program: a signal just before would be seen only when that ends.

@@ -10,12 +10,12 @@ import unittest
 import zipfile
 from typing import Iterator
 
-from common import CHAIN, PACKAGES, ROOT, Case, files_of, python_with
+from common import CHAIN, PACKAGES, ROOT, Case, Word, files_of, python_with
 
 sys.path.insert(0, str(ROOT / "python"))
 
 
-def has_venv():
+def has_venv() -> bool:
     """Whether virtual environments can be made."""
     try:
         import ensurepip  # noqa: F401
@@ -68,7 +68,7 @@ OFFLINE = {**os.environ, "PIP_NO_INDEX": "1", "PIP_DISABLE_PIP_VERSION_CHECK": "
 
 @unittest.skipUnless(has_venv(), "without venv (Debian's package python3-venv)")
 class Install(Case):
-    def run_in(self, folder, *words):
+    def run_in(self, folder: pathlib.Path, *words: Word) -> str:
         done = subprocess.run(
             [str(word) for word in words], cwd=folder, env=OFFLINE, capture_output=True, encoding="utf-8"
         )

@@ -3,6 +3,7 @@ them."""
 import pickle
 import unittest
 import warnings
+from typing import Any, Callable, List, Tuple
 
 from common import CHAIN, Case
 
@@ -14,12 +15,12 @@ MANY = [(f"B{n}", 1, "adams") for n in range(1001)]
 OWED = [("A", "B", cls, 10**6) for cls in range(1, 10)] + [("B", "A", 1, 10**6)]
 
 
-def banks_of(count):
+def banks_of(count: int) -> bytes:
     return b"name,cash,rule\n" + b"".join(b"N%d,1,order\n" % n for n in range(count))
 
 
 class Limits(Case):
-    def told(self, call):
+    def told(self, call: Callable[[], Any]) -> Tuple[Any, List[Tuple[str, str]]]:
         """What a call gives, and the warnings on limits that it gives rise to, each with the file that it is about."""
         with warnings.catch_warnings(record=True) as caught:
             warnings.simplefilter("always")

@@ -7,20 +7,17 @@ import subprocess
 import sys
 import time
 import unittest
+from typing import Any, Iterator, List, Tuple
 from unittest import mock
 
+from clients import network_of
 from common import CHAIN, HUB, ROOT, TWELVE, Case, needs_modules, python_with
 
 import clearing_client as cc
 from clearing_client import Network, Scenario, Scenarios, many, network, texts
 
 
-def of(folder):
-    """The network of an example."""
-    return Network(folder / "banks.csv", folder / "debts.csv")
-
-
-def sums_of(left):
+def sums_of(left: Any) -> Tuple[Any, Any]:
     """The sums of what `stress` leaves, from its standings."""
     scenarios = [
         (
@@ -54,14 +51,14 @@ class SideBySide(Case):
 
     def test_outcomes_are_those_of_stress(self):
         for folder in (CHAIN, HUB, TWELVE):
-            net, scenarios = of(folder), Scenarios.cuts(range(0, 1001, 100))
+            net, scenarios = network_of(folder), Scenarios.cuts(range(0, 1001, 100))
             left = net.stress(scenarios)
             self.assertEqual(tuple(cc.map_stress([net], scenarios)), left.scenarios)
             file = self.file("s.toml", scenarios.to_toml())
             self.assertEqual(tuple(cc.map_stress([net], file)), left.scenarios)
 
     def test_more_scenarios_than_a_file_may_have(self):
-        net = of(CHAIN)
+        net = network_of(CHAIN)
         left = list(cc.map_stress([net], Scenarios.cuts(range(250))))
         self.assertEqual([one.number for one in left], list(range(1, 251)))
         self.assertEqual([one.name for one in left], [f"cut {cut}" for cut in range(250)])
@@ -74,7 +71,7 @@ class SideBySide(Case):
             )
 
     def test_a_fault_comes_in_its_place_and_ends_it(self):
-        nets = [of(CHAIN), Network([("A", 1, "none")], []), of(HUB)]
+        nets = [network_of(CHAIN), Network([("A", 1, "none")], []), network_of(HUB)]
         for call in (cc.map_stress, cc.map_outcomes):
             left = call(nets, Scenarios.cuts([1]), jobs=2)
             self.assertIsNotNone(next(left))
@@ -88,15 +85,15 @@ class SideBySide(Case):
             f'touch {self.folder}/$$; n=0; while [ $(ls {self.folder} | grep -c "^[0-9]*$") -lt 2 ]; do sleep 0.02; '
             f'n=$((n + 1)); [ $n -lt 500 ] || exit 77; done; exec {os.environ["CLEARING"]} "$@"'
         )
-        self.assertEqual(len(list(cc.map_stress([of(CHAIN), of(HUB)], Scenarios.cuts([1]), jobs=2))), 2)
+        self.assertEqual(len(list(cc.map_stress([network_of(CHAIN), network_of(HUB)], Scenarios.cuts([1]), jobs=2))), 2)
 
     def test_few_runs_begin_ahead_of_what_is_taken(self):
         taken = []
 
-        def nets():
+        def nets() -> Iterator[Network]:
             for at in range(100):
                 taken.append(at)
-                yield of(CHAIN)
+                yield network_of(CHAIN)
 
         for call in (cc.map_stress, cc.map_outcomes):
             taken.clear()
@@ -131,7 +128,7 @@ class SideBySide(Case):
 class Sums(Case):
     def test_sums_are_those_of_stress(self):
         for folder in (CHAIN, HUB, TWELVE):
-            net, scenarios = of(folder), Scenarios.cuts(range(0, 1001, 13))
+            net, scenarios = network_of(folder), Scenarios.cuts(range(0, 1001, 13))
             (left,), wanted = cc.map_outcomes([net], scenarios), sums_of(net.stress(scenarios))
             self.assertEqual([tuple(one) for one in left.scenarios], wanted[0])
             self.assertEqual([tuple(one)[1:] for one in left.banks], wanted[1])
@@ -145,7 +142,7 @@ class Sums(Case):
             Scenario("A loses more than it has", losses={"A": 8}),
             Scenario("half", 500),
         ]
-        (left,) = cc.map_outcomes([of(CHAIN)], scenarios)
+        (left,) = cc.map_outcomes([network_of(CHAIN)], scenarios)
         self.assertEqual(
             [tuple(one) for one in left.scenarios],
             [
@@ -165,11 +162,11 @@ class Sums(Case):
         self.assertEqual(cc.read(left.text), left)
 
     def test_networks_of_one_kind_are_kept_apart(self):
-        nets = [of(CHAIN), of(CHAIN), of(HUB)]
+        nets = [network_of(CHAIN), network_of(CHAIN), network_of(HUB)]
         left = list(cc.map_outcomes(nets, Scenarios.cuts(range(60)), jobs=3))
         self.assertEqual([len(one.scenarios) for one in left], [60, 60, 60])
         self.assertEqual(left[0], left[1])
-        (left,) = cc.map_outcomes([of(CHAIN)], [])
+        (left,) = cc.map_outcomes([network_of(CHAIN)], [])
         self.assertEqual(
             (len(left.scenarios), [tuple(one) for one in left.banks]), (0, [("A", 0, 0), ("B", 0, 0), ("C", 0, 0)])
         )
@@ -189,7 +186,7 @@ class Text(unittest.TestCase):
         "cash,7\n",
     ]
 
-    def read(self, text):
+    def read(self, text: str) -> List[Any]:
         """What each way reads, or the fault that it raises."""
         told = []
         for read in (
@@ -225,7 +222,7 @@ class Text(unittest.TestCase):
 
 class Executors(Case):
     def test_an_executor_that_is_given_runs_them_and_goes_on(self):
-        net, scenarios = of(TWELVE), Scenarios.cuts(range(0, 1001, 200))
+        net, scenarios = network_of(TWELVE), Scenarios.cuts(range(0, 1001, 200))
         whole = list(cc.map_stress([net], scenarios))
         for kind in (concurrent.futures.ThreadPoolExecutor, concurrent.futures.ProcessPoolExecutor):
             with kind(2) as executor:
@@ -237,8 +234,8 @@ class Executors(Case):
     def test_what_is_parsed_is_parsed_in_other_processes(self):
         seen, parse, read = self.folder / "seen", many.outcomes_in, network.parse
 
-        def told(parser):
-            def here(*words):
+        def told(parser: Any) -> Any:
+            def here(*words: Any) -> Any:
                 with open(seen, "a", encoding="utf-8") as file:
                     file.write(f"{os.getpid()}\n")
                 return parser(*words)
@@ -246,8 +243,8 @@ class Executors(Case):
             return here
 
         with mock.patch.object(many, "outcomes_in", told(parse)), mock.patch.object(network, "parse", told(read)):
-            list(cc.map_stress([of(CHAIN), of(HUB)], Scenarios.cuts([1]), jobs=2))
-            list(cc.map_outcomes([of(CHAIN), of(HUB)], Scenarios.cuts([1]), jobs=2))
+            list(cc.map_stress([network_of(CHAIN), network_of(HUB)], Scenarios.cuts([1]), jobs=2))
+            list(cc.map_outcomes([network_of(CHAIN), network_of(HUB)], Scenarios.cuts([1]), jobs=2))
         numbers = seen.read_text().split()
         self.assertEqual(len(numbers), 4)
         self.assertNotIn(str(os.getpid()), numbers)

@@ -1,6 +1,7 @@
 """Names of every character that the formats allow come through: tables, scenarios by either writer, words and
 results."""
 import unittest
+from typing import Any, List
 
 from common import Case, needs_packages, there
 from odd_names import DASHED, ODD_NAMES, all_names, untrimmed
@@ -12,7 +13,7 @@ NAMES = untrimmed([*ODD_NAMES, *DASHED])
 
 
 class Names(Case):
-    def check_all(self, names):
+    def check_all(self, names: List[str]) -> Any:
         """A ring of banks with these names, of which each pays the next."""
         banks = [(name, 3, "order") for name in names]
         debts = [(name, other, 1, 5) for name, other in zip(names, names[1:] + names[:1])]
@@ -59,7 +60,7 @@ class Names(Case):
         for part in range(0, len(names), 1000):
             self.check_some(names[part : part + 1000])
 
-    def check_some(self, names):
+    def check_some(self, names: List[str]) -> None:
         net = Network([(name, 1, "order") for name in names], [(names[0], name, 1, 0) for name in names[1:]])
         self.assertEqual(net.banks.column("name"), names)
         for part in range(0, len(names), 500):

@@ -2,8 +2,10 @@
 import os
 import pathlib
 import unittest
+from typing import Any, Iterator, List, Tuple
 
-from common import CHAIN, EXAMPLES, HUB, ROOT, TWELVE, Case, files_of, needs_checkout, printed
+from clients import network_of
+from common import CHAIN, EXAMPLES, HUB, ROOT, TWELVE, Case, Word, files_of, needs_checkout
 
 import clearing_client as cc
 from clearing_client import Network, Scenario, Scenarios, TableError
@@ -12,15 +14,11 @@ BANKS = [("A", 7, "order"), ("B", 1, "order"), ("C", 0, "order")]
 DEBTS = [("A", "B", 1, 10), ("B", "C", 1, 9)]
 
 
-def of(folder):
-    return Network(folder / "banks.csv", folder / "debts.csv")
-
-
 class Tasks(Case):
-    def answers(self, net, folder):
+    def answers(self, net: Network, folder: pathlib.Path) -> Iterator[Tuple[Any, List[Word]]]:
         """What each task answers, and what the program prints for the same words."""
         files, journal = files_of(folder), net.clear(workers=1, journal=True).journal
-        written = self.file("journal.csv", printed("clear", *files, "--workers", 1, "--show", "journal"))
+        written = self.file("journal.csv", self.printed("clear", *files, "--workers", 1, "--show", "journal"))
         first, last = net.banks[0].name, net.banks[-1].name
         scenarios = Scenarios([Scenario(" a ", 500), Scenario(" a ", losses={first: 3, last: 10**12})])
         toml = self.file("scenarios.toml", scenarios.to_toml())
@@ -47,18 +45,18 @@ class Tasks(Case):
 
     def test_each_task_answers_what_the_program_prints_for_every_example(self):
         for folder in EXAMPLES:
-            net = of(folder)
+            net = network_of(folder)
             # The same network from its tables, which the package writes itself.
             for form in (net, Network(net.banks, net.debts)) if folder in (HUB, TWELVE) else (net,):
                 for answer, words in self.answers(form, folder):
                     with self.subTest(example=folder.name, words=words):
-                        self.assertEqual(answer.text, printed(*words, *files_of(folder)))
+                        self.assertEqual(answer.text, self.printed(*words, *files_of(folder), statuses=(0, 7)))
                         self.assertEqual(cc.read(answer.text), answer)
 
     def test_a_journal_is_handed_over_as_the_program_printed_it(self):
-        text = printed("clear", *files_of(TWELVE), "--workers", 1, "--show", "journal")
+        text = self.printed("clear", *files_of(TWELVE), "--workers", 1, "--show", "journal")
         seen = self.folder / "seen.csv"
-        net, before = of(TWELVE), os.environ["CLEARING"]
+        net, before = network_of(TWELVE), os.environ["CLEARING"]
         self.program(
             f'for word; do case $last in --journal) cat "$word" >{seen};; esac; last=$word; done; exec {before} "$@"'
         )
@@ -67,7 +65,7 @@ class Tasks(Case):
 
     def test_a_made_network_is_told_in_sums(self):
         words = ["gen", "--seed", 2**64 - 1, "--size", 40, "--tries", 300]
-        self.assertEqual(cc.generate(2**64 - 1, 40, 300).text, printed(*words))
+        self.assertEqual(cc.generate(2**64 - 1, 40, 300).text, self.printed(*words))
 
     def test_values_that_are_known(self):
         net = Network(BANKS, DEBTS)
@@ -122,7 +120,7 @@ class Tasks(Case):
 
 
 class Forms(Case):
-    def same(self, *networks):
+    def same(self, *networks: Network) -> None:
         """Networks of which the program reads the same."""
         for net in networks:
             self.assertEqual(net.check().text, Network(BANKS, DEBTS).check().text)
@@ -132,7 +130,7 @@ class Forms(Case):
         debts = [dict(zip(("debtor", "creditor", "class", "claim"), debt)) for debt in DEBTS]
         columns = {name: [bank[name] for bank in banks] for name in ("rule", "name", "cash")}
         others = {name: [debt[name] for debt in debts] for name in ("claim", "class", "creditor", "debtor")}
-        self.same(Network(banks, debts), Network(columns, others), of(CHAIN), Network(iter(BANKS), iter(DEBTS)))
+        self.same(Network(banks, debts), Network(columns, others), network_of(CHAIN), Network(iter(BANKS), iter(DEBTS)))
         self.same(Network(str(CHAIN / "banks.csv"), str(CHAIN / "debts.csv")))
         self.same(Network([cc.Bank(*bank) for bank in BANKS], [cc.Debt(*debt) for debt in DEBTS]))
         self.same(Network({"A": 7, "B": 1, "C": 0}, {("A", "B"): 10, ("B", "C"): 9}, rule="order"))
@@ -175,7 +173,7 @@ class Forms(Case):
         from fractions import Fraction
 
         class Index:
-            def __index__(self):
+            def __index__(self) -> int:
                 return 50
 
         for fifty in (50, 50.0, Decimal("50.0"), Index()):
@@ -237,7 +235,7 @@ class Forms(Case):
         self.assertEqual(Network({"A": 7}, []).banks[0], ("A", 7, "webster", 0))
 
     def test_outside_claims_come_along(self):
-        net = of(HUB)
+        net = network_of(HUB)
         self.assertEqual([bank.outside for bank in net.banks], [40, 0, 0, 0, 25])
         self.assertEqual(Network(net.banks, net.debts).defaults(), net.defaults())
 
@@ -247,8 +245,8 @@ class Forms(Case):
         self.assertEqual(net.banks[0].cash, 7)
         with self.assertRaises(TableError):
             net.with_cash({"D": 1})
-        left = of(TWELVE).compress()
-        self.assertEqual(of(TWELVE).with_debts(left.debts).check().total.owed, 9750000 - left.cancelled)
+        left = network_of(TWELVE).compress()
+        self.assertEqual(network_of(TWELVE).with_debts(left.debts).check().total.owed, 9750000 - left.cancelled)
 
     def test_files_are_read_once_and_written_never_over_others(self):
         banks, debts = self.folder / "-b.csv", self.folder / "d é.csv"
@@ -272,19 +270,19 @@ class Forms(Case):
 
 class Tables(Case):
     def test_a_table_is_a_sequence(self):
-        table = of(CHAIN).debts
+        table = network_of(CHAIN).debts
         self.assertEqual((len(table), table[-1], list(table[1:])), (2, DEBTS[1], DEBTS[1:]))
         self.assertEqual(table, cc.Table.of(cc.Debt, [cc.Debt(*debt) for debt in DEBTS]))
         self.assertEqual((table.column("class"), table.columns), ([1, 1], ("debtor", "creditor", "class", "claim")))
         table.column("claim").append(3)
         self.assertEqual(len(table.column("claim")), 2)
-        self.assertIn("more", str(of(TWELVE).debts))
+        self.assertIn("more", str(network_of(TWELVE).debts))
         for wrong in ([["A"], ["B"], [1]], [["A"], ["B"], [1], []]):
             with self.assertRaises(ValueError):
                 cc.Table(cc.Debt, wrong)
 
     def test_stress_has_its_scenarios_below_one_another(self):
-        left = of(TWELVE).stress(TWELVE / "scenarios.toml")
+        left = network_of(TWELVE).stress(TWELVE / "scenarios.toml")
         self.assertEqual((len(left.payments), len(left.standings), len(left.total)), (120, 36, 3))
         for one in left.scenarios:
             rows = [row[2:] for row in left.payments if row.number == one.number]

@@ -1,14 +1,11 @@
 """With pandas, numpy and networkx: the same networks and results in their types, exactly."""
 import unittest
 
+from clients import network_of
 from common import EXAMPLES, HUB, TWELVE, Case, needs_packages, there
 
 import clearing_client as cc
 from clearing_client import Network, Scenarios, TableError
-
-
-def of(folder):
-    return Network(folder / "banks.csv", folder / "debts.csv")
 
 
 class WithoutPackages(Case):
@@ -41,7 +38,7 @@ class Pandas(Case):
         for folder in EXAMPLES:
             with self.subTest(example=folder.name):
                 net, banks, debts = (
-                    of(folder),
+                    network_of(folder),
                     pandas.read_csv(folder / "banks.csv"),
                     pandas.read_csv(folder / "debts.csv"),
                 )
@@ -50,7 +47,7 @@ class Pandas(Case):
                 self.assertEqual(Network(frames["banks"], frames["debts"]).defaults(), net.defaults())
 
     def test_every_table_becomes_a_dataframe_with_the_same_values(self):
-        net = of(HUB)
+        net = network_of(HUB)
         journal = net.clear(journal=True).journal
         results = [
             net.check(),
@@ -82,9 +79,9 @@ class Pandas(Case):
                         self.assertEqual(str(frame[column].dtype), "int64", (name, column))
 
     def test_no_line_of_sums_doubles_a_sum(self):
-        frame = of(HUB).defaults().standings.to_pandas()
+        frame = network_of(HUB).defaults().standings.to_pandas()
         self.assertEqual((len(frame), int(frame["paid"].sum()), int(frame["estate"].sum())), (5, 680, 895))
-        left = of(HUB).stress(Scenarios.cuts([0, 500]))
+        left = network_of(HUB).stress(Scenarios.cuts([0, 500]))
         sums = left.standings.to_pandas().groupby("number")["paid"].sum()
         self.assertEqual(list(sums), [one.total.paid for one in left.scenarios])
 
@@ -123,7 +120,7 @@ class Pandas(Case):
             self.assertEqual((caught.exception.file, caught.exception.row, caught.exception.field), place)
 
     def test_tables_show_as_html(self):
-        self.assertIn("<td>Alster</td>", of(TWELVE).banks._repr_html_())
+        self.assertIn("<td>Alster</td>", network_of(TWELVE).banks._repr_html_())
 
 
 @needs_packages("numpy")
@@ -141,18 +138,18 @@ class Numpy(Case):
         self.assertEqual(net.clear().to_matrix().dtype, numpy.int64)
         self.assertEqual(Network([], []).to_matrix().shape, (0, 0))
         for folder in EXAMPLES:
-            net, done = of(folder), of(folder).clear()
+            net, done = network_of(folder), network_of(folder).clear()
             self.assertEqual(int(done.to_matrix().sum()), done.total.paid)
             self.assertEqual(int(net.to_matrix().sum()), net.check().total.owed)
             rows = done.to_matrix().sum(axis=1).tolist()
             self.assertEqual(rows, net.defaults().standings.column("paid"))
             left = net.stress([cc.Scenario("as it is")]).scenarios[0]
             self.assertEqual(left.to_matrix().tolist(), done.to_matrix().tolist())
-        text = cc.read(of(HUB).clear().text)
+        text = cc.read(network_of(HUB).clear().text)
         self.assertEqual(text.names(), ["East", "Hub", "North", "South", "West"])
         self.assertEqual(text.to_matrix().sum(), 680)
-        outcome = cc.read(of(HUB).stress([cc.Scenario("x")]).text).scenarios[0]
-        self.assertEqual(outcome.names(), of(HUB).banks.column("name"))
+        outcome = cc.read(network_of(HUB).stress([cc.Scenario("x")]).text).scenarios[0]
+        self.assertEqual(outcome.names(), network_of(HUB).banks.column("name"))
 
     def test_numbers_of_numpy(self):
         import numpy
@@ -178,14 +175,14 @@ class Numpy(Case):
 class Networkx(Case):
     def test_a_network_goes_through_a_graph_unchanged(self):
         for folder in EXAMPLES:
-            net = of(folder)
+            net = network_of(folder)
             again = Network(net.to_networkx())
             self.assertEqual(again.check().total, net.check().total)
             self.assertEqual(sorted(again.debts), sorted(net.debts))
             self.assertEqual(list(again.banks), list(net.banks))
 
     def test_graphs_of_results_have_states_and_payments(self):
-        net = of(HUB)
+        net = network_of(HUB)
         graph = net.clear().to_networkx()
         self.assertEqual(graph.edges["East", "Hub", 1], {"class": 1, "claim": 90, "paid": 80})
         self.assertEqual(graph.nodes["Hub"], {"cash": 120, "rule": "webster", "outside": 40})

@@ -2,11 +2,13 @@
 sheet to the unit that is told."""
 import ast
 import json
+import pathlib
 import re
 import subprocess
 import sys
 import unittest
 from fractions import Fraction
+from typing import Any, Dict, Iterator
 
 from common import PACKAGES, Case, needs_packages, there, tool
 
@@ -20,7 +22,7 @@ TABLE = "bank;cash\nCrédit;10\nBank B;20\nCassa;30\n"
 AUTO = {"unit": "5", "round": True}
 
 
-def grouped(digits, sign, sizes):
+def grouped(digits: str, sign: str, sizes: Any) -> str:
     """Digits with a sign between groups of these sizes from the right, the last size again and again."""
     parts = []
     while digits:
@@ -40,17 +42,17 @@ LOCALES = {
 }
 
 
-def written_in(locale, number):
+def written_in(locale: str, number: str) -> str:
     return LOCALES[locale][0](*number.split("."))
 
 
-def list_in(locale):
+def list_in(locale: str) -> str:
     sep = LOCALES[locale][1]
     lines = [sep.join([NAMES[a], NAMES[b], written_in(locale, claim)]) for (a, b), claim in CLAIMS.items()]
     return sep.join(["debtor", "creditor", "amount"]) + "\n" + "".join(line + "\n" for line in lines)
 
 
-def matrix_in(locale):
+def matrix_in(locale: str) -> str:
     sep = LOCALES[locale][1]
     rows = [
         sep.join(
@@ -61,7 +63,7 @@ def matrix_in(locale):
     return sep.join(["", *NAMES, "cash"]) + "\n" + "".join(row + "\n" for row in rows)
 
 
-def locales():
+def locales() -> Iterator[Any]:
     """Lists and matrices of each locale, in each encoding."""
     for locale in LOCALES:
         for encoding, words in [("utf-8", {}), ("utf-8-sig", {}), ("utf-16", {}), ("cp1252", {"encoding": "cp1252"})]:
@@ -312,7 +314,7 @@ BOOKS = [
 
 @needs_packages("numpy")
 class Sheets(Case):
-    def named(self, options):
+    def named(self, options: Dict[str, Any]) -> Dict[str, Any]:
         """The options, with a file in the place of each content."""
         files = iter(range(10))
         as_file = lambda value: self.file(f"o{next(files)}.csv", value) if isinstance(value, bytes) else value
@@ -323,7 +325,7 @@ class Sheets(Case):
             for option, value in options.items()
         }
 
-    def check(self, name, kind, path, options, want):
+    def check(self, name: str, kind: Any, path: pathlib.Path, options: Dict[str, Any], want: Any) -> None:
         """What happens to a sheet: it is refused with these words, or makes a network whose debts sum to this much."""
         make = getattr(cc.Network, f"from_{kind}")
         if isinstance(want, str):
@@ -482,7 +484,7 @@ print(json.dumps([before == state(), bool(seen), wrong[:3]]))
 class Process(Case):
     """A call from Python leaves what is one for the whole process as it was."""
 
-    def sheets(self):
+    def sheets(self) -> Iterator[Any]:
         """Calls of each kind, with and without faults."""
         table = str(self.file("table.csv", BANKS))
         for kind, (sheet, options, _) in FAULTS.items():

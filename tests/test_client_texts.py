@@ -1,7 +1,9 @@
 """The parser takes every text of the program apart without loss, and no other text."""
+import pathlib
 import unittest
+from typing import Any, Iterator, List, Sequence, Tuple
 
-from common import CHAIN, EXAMPLES, HUB, TWELVE, Case, files_of, printed
+from common import CHAIN, EXAMPLES, HUB, TWELVE, Case, files_of
 
 from clearing_client import TextError, read
 from clearing_client.results import (
@@ -25,7 +27,7 @@ from clearing_client.results import (
 )
 
 
-def lines(table, without=()):
+def lines(table: Any, without: Sequence[str] = ()) -> List[str]:
     """The lines of a table, as the program has them."""
     keep = [name for name in table.columns if name not in without]
     word = {True: "yes", False: "no"}
@@ -33,7 +35,7 @@ def lines(table, without=()):
     return [",".join(keep), *map(",".join, rows)]
 
 
-def standings(result, outside):
+def standings(result: Any, outside: bool) -> List[str]:
     """The lines of standings with their sums."""
     total, without = list(result.total), [] if outside else ["outside_paid"]
     if not outside:
@@ -41,10 +43,10 @@ def standings(result, outside):
     return [*lines(result.standings, without), "total," + ",".join(map(str, total[:-1])), f"cash,{total[-1]}"]
 
 
-def text_of(result, outside):
+def text_of(result: Any, outside: bool) -> str:
     """The text of a result, made from its tables alone."""
 
-    def banks(table):
+    def banks(table: Any) -> List[str]:
         return lines(table, () if outside else ("outside",))
 
     if isinstance(result, Check):
@@ -81,10 +83,10 @@ def text_of(result, outside):
 
 
 class Texts(Case):
-    def texts(self, folder):
+    def texts(self, folder: pathlib.Path) -> Iterator[Tuple[str, str]]:
         """What each task prints for an example."""
         files = files_of(folder)
-        journal = self.file("journal.csv", printed("clear", *files, "--show", "journal"))
+        journal = self.file("journal.csv", self.printed("clear", *files, "--show", "journal"))
         scenarios = self.file(
             "scenarios.toml", '[[scenario]]\nname = " a # "\n[[scenario]]\nname = " a # "\ncut = 700\n'
         )
@@ -108,7 +110,7 @@ class Texts(Case):
             ["rescues"],
             ["outcomes", "--scenarios", scenarios],
         ):
-            yield words[0], printed(*words, *files)
+            yield words[0], self.printed(*words, *files)
 
     def test_every_text_of_every_example_is_taken_apart_without_loss(self):
         for folder in EXAMPLES:
@@ -116,13 +118,13 @@ class Texts(Case):
             for task, text in self.texts(folder):
                 with self.subTest(example=folder.name, task=task):
                     self.assertEqual(text_of(read(text), outside), text)
-        text = printed("gen", "--seed", 7, "--size", 30, "--tries", 90)
+        text = self.printed("gen", "--seed", 7, "--size", 30, "--tries", 90)
         self.assertEqual(text_of(read(text), False), text)
 
     def test_values_that_are_known(self):
-        payments = read(printed("clear", *files_of(CHAIN))).payments
+        payments = read(self.printed("clear", *files_of(CHAIN))).payments
         self.assertEqual([tuple(one) for one in payments], [("A", "B", 1, 10, 7), ("B", "C", 1, 9, 8)])
-        self.assertEqual(read(printed("clear", *files_of(CHAIN))).total, (19, 15))
+        self.assertEqual(read(self.printed("clear", *files_of(CHAIN))).total, (19, 15))
 
     def test_a_text_that_was_cut_short_is_refused(self):
         for task, text in self.texts(HUB):
@@ -133,7 +135,7 @@ class Texts(Case):
                         read(text[:place])
 
     def test_what_is_no_number_no_state_or_no_record_is_refused_with_its_line(self):
-        text = printed("defaults", *files_of(TWELVE))
+        text = self.printed("defaults", *files_of(TWELVE))
         for old, new, line in [
             (",2566666,", ",2566666.0,", 2),
             (",2566666,", ", 2566666,", 2),
@@ -160,10 +162,10 @@ class Texts(Case):
             with self.subTest(text=text), self.assertRaises(TextError):
                 read(text)
         with self.assertRaisesRegex(TextError, "2 banks .* in place of 3"):
-            read(printed("check", *files_of(CHAIN)).replace("C,0,order\n", "", 1))
+            read(self.printed("check", *files_of(CHAIN)).replace("C,0,order\n", "", 1))
 
     def test_a_byte_order_mark_and_line_ends_of_spreadsheets_are_passed_over(self):
-        text = printed("defaults", *files_of(TWELVE))
+        text = self.printed("defaults", *files_of(TWELVE))
         path = self.file("d.csv", b"\xef\xbb\xbf" + text.replace("\n", "\r\n").encode())
         self.assertEqual(read(path), read(text))
         self.assertEqual(read(path.read_bytes().decode()), read(text))
@@ -208,7 +210,7 @@ class Texts(Case):
             ["rescues"],
             ["outcomes", "--scenarios", scenarios],
         ):
-            text = printed(*words, "--banks", banks, "--debts", debts)
+            text = self.printed(*words, "--banks", banks, "--debts", debts)
             self.assertEqual(text_of(read(text), False), text)
 
 

@@ -9,6 +9,7 @@ import shutil
 import subprocess
 import tempfile
 import unittest
+from typing import Iterable, Iterator, List, Set, Tuple
 
 from common import ROOT, Case
 
@@ -24,13 +25,13 @@ SCRIPTS = sorted(
 OTHERS = sorted([*(ROOT / "python/src").rglob("*.mjs"), *(ROOT / "tests").rglob("*.mjs"), *(ROOT / "r").rglob("*.R")])
 
 
-def checked_at_once(root):
+def checked_at_once(root: pathlib.Path) -> Tuple[List[str], List[str]]:
     """What is checked at once, seen from python/: two of the scripts are called build."""
     shared = [f"../tests/{path.name}" for path in sorted((root / "tests").glob("*.py")) if path.name[:5] != "test_"]
     return ["src", "build.py", "../bench", *shared], ["../tools/dev"]
 
 
-def functions_in(paths):
+def functions_in(paths: Iterable[pathlib.Path]) -> Iterator[Tuple[str, ast.FunctionDef]]:
     """Each function of some files, with its place and name, by which a fault tells it."""
     for path in paths:
         for node in ast.walk(ast.parse(path.read_text(encoding="utf-8"))):
@@ -38,7 +39,20 @@ def functions_in(paths):
                 yield f"{path.relative_to(ROOT)}:{node.lineno} {node.name}", node
 
 
-def idle_in(paths, words):
+def untyped_in(text: str) -> Iterator[ast.FunctionDef]:
+    """The functions of a module of tests, and the methods of its classes, that do not say what they take and give. A
+    test, and what stands around tests, takes and gives nothing."""
+    tree = ast.parse(text)
+    bodies = [tree.body, *(node.body for node in tree.body if isinstance(node, ast.ClassDef))]
+    for node in (node for body in bodies for node in body if isinstance(node, ast.FunctionDef)):
+        given = [*node.args.posonlyargs, *node.args.args, *node.args.kwonlyargs, node.args.vararg, node.args.kwarg]
+        takes = [one for one in given if one and one.arg not in ("self", "cls")]
+        is_around = re.match(r"test_|(setUp|tearDown)(Class)?$", node.name)
+        if not is_around and (not node.returns or any(one.annotation is None for one in takes)):
+            yield node
+
+
+def idle_in(paths: Iterable[pathlib.Path], words: Set[str]) -> Iterator[str]:
     """The functions of some files, outside their classes, that nothing calls: none of the files has the name beside the
     definition, imports it from there or has an attribute of its name, and it is none of some words besides."""
     trees = {path: ast.parse(path.read_text(encoding="utf-8")) for path in paths}
@@ -59,7 +73,7 @@ def idle_in(paths, words):
 
 @unittest.skipUnless(MYPY, "without mypy (Debian's package mypy)")
 class Types(Case):
-    def mypy(self, *words, cwd=ROOT / "python"):
+    def mypy(self, *words: object, cwd: pathlib.Path = ROOT / "python") -> "subprocess.CompletedProcess[str]":
         line = [MYPY, "--cache-dir", str(self.folder / "cache"), "--config-file", "pyproject.toml", *map(str, words)]
         return subprocess.run(line, cwd=cwd, capture_output=True, encoding="utf-8")
 
@@ -209,6 +223,16 @@ class Sources(unittest.TestCase):
             if not node.name.startswith("__"):
                 self.assertTrue(ast.get_docstring(node), name)
 
+    def test_a_helper_of_a_test_says_its_types(self):
+        """The functions of the modules of tests but the tests themselves, and what stands within a function."""
+        modules = [path for path in TESTS if path.name.startswith("test_")]
+        untyped = [f"{path.name} {node.name}" for path in modules for node in untyped_in(path.read_text())]
+        self.assertEqual(untyped, [])
+        self.assertGreater(len(modules), 100)
+        helpers = "def one(a: int, *b, c: str) -> int:\n    pass\n\n\ndef two(d: int):\n    pass\n"
+        tests = "class A:\n    def test_it(self):\n        pass\n\n    def ok(self, f: int) -> None:\n        pass\n"
+        self.assertEqual([node.name for node in untyped_in(helpers + tests)], ["one", "two"])
+
     def test_lines_have_the_one_length_of_the_settings(self):
         settings = configparser.ConfigParser()
         settings.read(ROOT / "python/.flake8")
@@ -225,7 +249,7 @@ class Sources(unittest.TestCase):
     def test_a_skip_stands_on_a_test(self):
         """On another function it skips nothing, and hides what calls that."""
 
-        def astray(text):
+        def astray(text: str) -> List[str]:
             nodes = (node for node in ast.walk(ast.parse(text)) if isinstance(node, ast.FunctionDef))
             return [
                 node.name

@@ -8,8 +8,9 @@ import subprocess
 import sys
 import unittest
 import zipfile
+from typing import Any, Tuple
 
-from common import CHAIN, PROGRAM, ROOT, Case, files_of, printed
+from common import CHAIN, PROGRAM, ROOT, Case, Word, files_of
 from test_client_install import OFFLINE, has_venv
 
 sys.path.insert(0, str(ROOT / "python"))
@@ -18,7 +19,7 @@ import build  # noqa: E402
 FILES = files_of(CHAIN)
 
 
-def executable():
+def executable() -> pathlib.Path:
     """The file that is the tested program itself, where that is known."""
     built = ROOT / "crates/clear_main/out/clear_main"
     named = pathlib.Path(os.path.realpath(PROGRAM))
@@ -26,7 +27,7 @@ def executable():
 
 
 class Wheel(Case):
-    def wheel(self, program):
+    def wheel(self, program: Word) -> pathlib.Path:
         done = subprocess.run(
             [sys.executable, "-IB", str(ROOT / "python/build.py"), str(self.folder), str(program)],
             capture_output=True,
@@ -66,7 +67,7 @@ class Wheel(Case):
         before = name.read_bytes()
         self.assertEqual(self.wheel(self.folder / "program").read_bytes(), before)
 
-    def installed(self):
+    def installed(self) -> Tuple[pathlib.Path, Any]:
         """A new environment with the wheel of the tested program, and what runs a command in a small environment."""
         program = executable()
         if program.read_bytes()[:4] != b"\x7fELF":
@@ -76,7 +77,7 @@ class Wheel(Case):
             done = subprocess.run(words, env=OFFLINE, capture_output=True, encoding="utf-8")
             self.assertEqual(done.returncode, 0, done.stdout + done.stderr)
 
-        def run(*words, **more):
+        def run(*words: Word, **more: Any) -> "subprocess.CompletedProcess[bytes]":
             environment = {"PATH": "/usr/bin:/bin", "HOME": str(self.folder), **more}
             given = {"cwd": self.folder, "env": environment, "stdin": subprocess.DEVNULL, "capture_output": True}
             return subprocess.run([str(word) for word in words], timeout=120, **given)
@@ -88,7 +89,7 @@ class Wheel(Case):
         place, run = self.installed()
         for words in (["clear", *FILES, "--workers", 1], ["defaults", *FILES, "--workers", 1]):
             done = run(place / "bin/clearing", *words)
-            self.assertEqual((done.returncode, done.stdout.decode(), done.stderr), (0, printed(*words), b""))
+            self.assertEqual((done.returncode, done.stdout.decode(), done.stderr), (0, self.printed(*words), b""))
         done = run(place / "bin/clearing", "--help")
         self.assertEqual((done.returncode, done.stdout), (2, b""))
         # The package and the tools find it there, before any other but what CLEARING names.
@@ -104,7 +105,7 @@ class Wheel(Case):
         (packed,) = place.glob("lib/python3*/site-packages/clearing_client/bin/clearing")
         self.assertEqual(done.stdout.decode(), f"{packed}\n" * 2, done.stderr)
         done = run(place / "bin/clearing-breaking", *FILES)
-        self.assertEqual((done.returncode, done.stdout.decode()), (0, printed("breaking", *FILES)), done.stderr)
+        self.assertEqual((done.returncode, done.stdout.decode()), (0, self.printed("breaking", *FILES)), done.stderr)
         # Each command tells its words.
         commands = sorted(path.name for path in (place / "bin").glob("clearing-*"))
         self.assertEqual(len(commands), len(list((ROOT / "bin").iterdir())))
@@ -117,7 +118,7 @@ class Wheel(Case):
         self.file("jobs.tsv", f"a\t{line}\nb\t{line}\n")
         done = run(place / "bin/clearing-many", "run", "jobs.tsv", "results")
         self.assertEqual((done.returncode, done.stdout, done.stderr), (0, b"2 done, 0 failed\n", b""))
-        self.assertEqual((self.folder / "results/b.out").read_text(), printed("clear", *FILES, "--workers", 1))
+        self.assertEqual((self.folder / "results/b.out").read_text(), self.printed("clear", *FILES, "--workers", 1))
         done = run(place / "bin/clearing-many", "slurm", "jobs.tsv", "results")
         self.assertIn(
             f"CLEARING={shlex.quote(str(packed))} exec {shlex.quote(str(place / 'bin/clearing-many'))} one ".encode(),
@@ -135,9 +136,11 @@ class Wheel(Case):
         for number, named in enumerate(("clearing", "", f"{place}/bin/clearing")):
             more = {"PATH": path, "CLEARING": named}
             done = run(place / "bin/clearing", *clears, **more)
-            self.assertEqual((done.returncode, done.stdout.decode(), done.stderr), (0, printed(*clears), b""), named)
+            answer = (done.returncode, done.stdout.decode(), done.stderr)
+            self.assertEqual(answer, (0, self.printed(*clears), b""), named)
             done = run(place / "bin/clearing-breaking", *FILES, **more)
-            self.assertEqual((done.returncode, done.stdout.decode()), (0, printed("breaking", *FILES)), done.stderr)
+            breaking = self.printed("breaking", *FILES)
+            self.assertEqual((done.returncode, done.stdout.decode()), (0, breaking), done.stderr)
             # The checksum of the program is that of what was built.
             code = "from clearing_client import find_program; from clearing_tools.evidence.versions import program_sum"
             done = run(

@@ -5,6 +5,7 @@ import re
 import subprocess
 import sys
 import unittest
+from typing import Any, List, Tuple
 
 from common import HUB, ROOT, Case, files_of, loaded, run_of
 
@@ -24,7 +25,7 @@ OF_BEFORE = {
 }
 
 
-def older_places(text):
+def older_places(text: str) -> List[str]:
     """The places of before that a text names."""
     older = "|".join(map(re.escape, commands.older_names()))
     return re.findall(rf"\btools/(?:{older})\b|\"tools\" / \"(?:{older})\"", text)
@@ -69,7 +70,7 @@ class Commands(Case):
         )
         self.assertEqual((done.returncode, done.stderr), (3, f"evidence.sh: {self.folder}/none is no folder\n"))
 
-    def said(self, run, word, name="", older=""):
+    def said(self, run: List[str], word: str, name: str = "", older: str = "") -> Tuple[Any, ...]:
         """The status of a command, and what it says by an older name, whatever its lines are."""
         done = subprocess.run([*map(str, run), word], stdin=subprocess.DEVNULL, capture_output=True, encoding="utf-8")
         return done.returncode, *(

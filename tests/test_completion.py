@@ -1,11 +1,13 @@
 """The completions are those of the table of the command line, and that for bash offers the words that it should, and
 executes and alters no name."""
 import os
+import pathlib
 import pty
 import subprocess
 import threading
 import time
 import unittest
+from typing import Any, List, Optional
 
 from common import ROOT, Case, clearing, loaded, needs
 from odd_names import ODD_NAMES, all_names
@@ -15,7 +17,7 @@ SCRIPT = ROOT / "tools/clearing.bash"
 ENVIRONMENT = {**os.environ, "LC_ALL": "C.UTF-8"}
 
 
-def completed(folder, line, word=None, errors="strict"):
+def completed(folder: pathlib.Path, line: str, word: Optional[str] = None, errors: str = "strict") -> List[str]:
     """What the function offers for the end of a line."""
     script = f"""
         source "{SCRIPT}"
@@ -30,14 +32,14 @@ def completed(folder, line, word=None, errors="strict"):
     return done.stdout.split("\n")[:-1]
 
 
-def banks_of(names, end="\n"):
+def banks_of(names: List[str], end: str = "\n") -> str:
     return "".join(line + end for line in ["name,cash,rule"] + [f"{name},1,order" for name in names])
 
 
 class Terminal:
     """A bash that reads a terminal, in which a line is typed and completed."""
 
-    def __init__(self, folder):
+    def __init__(self, folder: pathlib.Path) -> None:
         self.folder = folder
         environment = {
             **ENVIRONMENT,
@@ -59,17 +61,17 @@ class Terminal:
         )
         self.wait("ready")
 
-    def drain(self):
+    def drain(self) -> None:
         try:
             while os.read(self.fd, 4096):
                 pass
         except OSError:
             pass
 
-    def type(self, text):
+    def type(self, text: str) -> None:
         os.write(self.fd, text.encode())
 
-    def wait(self, name):
+    def wait(self, name: str) -> str:
         end = time.monotonic() + 60
         while not (self.folder / name).exists():
             if time.monotonic() > end:
@@ -79,14 +81,14 @@ class Terminal:
         (self.folder / name).unlink()
         return text
 
-    def completed(self, line):
+    def completed(self, line: str) -> str:
         """The line after a TAB at its end."""
         self.type(f"{line}\t\x07")
         typed = self.wait("typed")
         self.type("\x05\x15")
         return typed
 
-    def close(self):
+    def close(self) -> None:
         self.type("\x15exit\r")
         os.waitpid(self.process, 0)
         os.close(self.fd)
@@ -94,7 +96,7 @@ class Terminal:
 
 @needs("bash")
 class Completion(Case):
-    def words_of(self, line):
+    def words_of(self, line: str) -> Any:
         """The words of a line as the shell takes them, where it expands nothing else."""
         run = ["bash", "--norc", "-c", f"set -f; printf '%s\\0' {line}"]
         return subprocess.run(
@@ -212,7 +214,7 @@ class Completion(Case):
 
 @needs("bash")
 class HostileFiles(Case):
-    def names(self, content):
+    def names(self, content: bytes) -> List[str]:
         """What is offered for the name of a bank of a file, which may be no UTF-8."""
         self.file("banks.csv", content)
         line = "clearing rescue --banks banks.csv --debts d.csv --bank "

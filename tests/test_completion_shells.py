@@ -5,8 +5,9 @@ import shlex
 import shutil
 import subprocess
 import unittest
+from typing import Any, Callable, List
 
-from common import ROOT, Case, needs
+from common import ROOT, Case, Word, needs
 from odd_names import ODD_NAMES, untrimmed
 
 NAMES = untrimmed(ODD_NAMES)
@@ -17,7 +18,7 @@ FISH, ZSH = ROOT / "tools/clearing.fish", ROOT / "tools/clearing.zsh"
 class OtherShell(Case):
     """A case with a file of banks, and with a shell that runs there."""
 
-    def ran(self, *words):
+    def ran(self, *words: Word) -> Any:
         """What a command prints."""
         return subprocess.run(
             list(map(str, words)),
@@ -28,7 +29,7 @@ class OtherShell(Case):
             timeout=300,
         ).stdout
 
-    def banks(self):
+    def banks(self) -> None:
         """A file with names that a shell may take for something else, and with what is no name behind them."""
         self.file(
             "banks.csv",
@@ -38,7 +39,7 @@ class OtherShell(Case):
             + b",1,order\nZ\xff,1,order\nlast,1,order\n",
         )
 
-    def assert_offered(self, names_of):
+    def assert_offered(self, names_of: Callable[[str], Any]) -> None:
         """The names of a file are offered as they are, and of what is no file none."""
         self.banks()
         found = names_of("banks.csv").split(b"\n")[:-1]
@@ -52,11 +53,11 @@ class OtherShell(Case):
 
 @needs("fish")
 class Fish(OtherShell):
-    def fish(self, lines):
+    def fish(self, lines: str) -> Any:
         """What lines of fish print, below the completion."""
         return self.ran("fish", "--no-config", "-c", f"source {FISH}; {lines}")
 
-    def offered(self, line):
+    def offered(self, line: str) -> List[str]:
         """What is offered for the end of a line."""
         text = self.fish(f"complete -C '{line}'").decode(errors="replace")
         return [word.split("\t")[0] for word in text.splitlines()]
@@ -85,7 +86,7 @@ class Fish(OtherShell):
 
 @needs("zsh")
 class Zsh(OtherShell):
-    def typed(self, line, expected):
+    def typed(self, line: str, expected: str) -> str:
         """What stands at a terminal of its own after a line is typed and completed there: what comes until it has some
         words. The completion is installed in a folder of fpath."""
         (self.folder / "there").mkdir()

@@ -2,20 +2,15 @@
 import random
 import re
 import unittest
+from typing import Tuple
 
 from common import TWELVE, clearing, files_of
-from desk import DeskCase
+from desk import DeskCase, account_of
 
 from clearing_client.case import Case as Folder
-from clearing_tools.desk import account, state as states
+from clearing_tools.desk import state as states
 from clearing_tools.desk.runs import Desk as Table, Runs, base_of
 from clearing_tools.runner import ToolError
-
-
-def account_of(base, cleared, bank):
-    """The account of a bank in a state."""
-    owes, owed = account.debts_by(base, cleared)
-    return account.account_by(base, cleared, bank, owes, owed.get(bank, []))
 
 
 class Accounts(DeskCase):
@@ -58,7 +53,7 @@ class Accounts(DeskCase):
         self.assertGreater(lacking, 300)
         self.assertGreater(whole, lacking + 300)
 
-    def drawn(self, chosen):
+    def drawn(self, chosen: random.Random) -> Tuple[str, str]:
         """The lines of a network drawn at random: of up to twelve banks, some of which owe something outside, in up
         to three classes."""
         names = [f"B{at}" for at in range(chosen.randrange(2, 13))]

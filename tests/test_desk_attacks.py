@@ -8,7 +8,7 @@ import socket
 import threading
 import time
 import unittest
-from typing import Iterable, Optional, Tuple
+from typing import Any, Iterable, Optional, Tuple
 
 from common import PROGRAM
 from desk import DeskCase, Headers, swallow
@@ -194,7 +194,7 @@ class Attacks(DeskCase):
         held = [socket.create_connection(("127.0.0.1", desk.port), timeout=60) for _ in range(200)]
         ended = threading.Event()
 
-        def trickle():
+        def trickle() -> None:
             while not ended.wait(0.5):
                 for stream in held:
                     swallow(lambda: stream.sendall(b"x"))
@@ -299,7 +299,7 @@ class Attacks(DeskCase):
         desk = self.desk(program=program)
         statuses, lock = [], threading.Lock()
 
-        def work(first):
+        def work(first: Any) -> None:
             for number in range(first, 1000, 25):
                 if number < 25:
                     got = desk.ask(

@@ -70,52 +70,54 @@ def typed_changes() -> Iterator[Dict[str, Any]]:
     yield from ({"set": "add", **dict.fromkeys(fields, blank)} for blank in ("", " ", "\t", "    "))
 
 
+ADD = {"set": "add", "debtor": "Kemi", "creditor": "Isar", "class": "1", "claim": "5"}
+THERE = dict(zip(("debtor", "creditor", "class"), (TWELVE / "debts.csv").read_text().splitlines()[1].split(",")))
+"""The debt that stands first among those of the twelve banks."""
+
+
+def cash(value: str) -> Dict[str, Any]:
+    """The change of the cash of the third bank to a value."""
+    return {"set": "bank", "bank": 2, "field": "cash", "value": value}
+
+
+# A change that is refused, what is said of it, and the field at which that stands.
+FAULTS = [
+    *((cash(value), "banks row 3: number (4)", "cash") for value in ("x", "", "-5", '1,2"3', "٣")),
+    (cash("1000000000001"), "banks row 3: limit (6)", "cash"),
+    ({"set": "bank", "bank": 0, "field": "outside", "value": "100000000001"}, "banks row 1: limit (6)", "outside"),
+    ({"set": "bank", "bank": 0, "field": "rule", "value": "pro rata"}, "banks row 1: rule (5)", "rule"),
+    ({"set": "claim", "debt": 6, "value": "1000001"}, "debts row 7: limit (6)", "claim"),
+    ({"set": "claim", "debt": 6, "value": "1.5"}, "debts row 7: number (4)", "claim"),
+    ({**ADD, "creditor": "Nobody"}, "debts row 41: unknown bank (8)", "creditor"),
+    ({**ADD, "creditor": "Kemi"}, "debts row 41: self debt (9)", "creditor"),
+    ({**ADD, "creditor": "a,b"}, "debts row 41: name (3)", "creditor"),
+    ({**ADD, "class": "10"}, "debts row 41: class (10)", "class"),
+    ({**ADD, "claim": "much"}, "debts row 41: number (4)", "claim"),
+    ({"set": "add", **THERE, "claim": "1"}, "debts row 41: double debt (11)", "creditor"),
+    ({"set": "cut", "value": "1001"}, "scenarios row 1: limit (6)", "cut"),
+    *(({"set": "cut", "value": value}, "scenarios row 1: shape (17)", "cut") for value in ("half", "9" * 20, "95%")),
+    ({"set": "keep", "value": "1001"}, "'1001' is no value of --keep: it is a number from 0 to 1,000", "keep"),
+    (
+        {"set": "keep", "value": "x"},
+        "'x' is no value of --keep: a number is 1 to 20 digits 0 to 9, and nothing else",
+        "keep",
+    ),
+]
+
+
 class Faults(DeskCase):
     def test_a_fault_is_the_program_s_own_and_stands_at_its_field(self):
         desk = self.desk(None, "--scenarios", SCENARIOS)
+        for change, said, field in FAULTS:
+            with self.subTest(change=change):
+                fault = desk.change(0, 422, **change)
+                self.assertEqual((fault["said"], fault["field"]), (said, field))
+
+    def test_a_change_that_is_refused_makes_no_state_and_leaves_the_last_one_as_it_is(self):
+        desk = self.desk(None, "--scenarios", SCENARIOS)
         good = desk.change(0, set="cut", value="100")
-        add = {"set": "add", "debtor": "Kemi", "creditor": "Isar", "class": "1", "claim": "5"}
-        there = (TWELVE / "debts.csv").read_text().splitlines()[1].split(",")
-        table = [
-            ({"set": "bank", "bank": 2, "field": "cash", "value": "x"}, "banks row 3: number (4)", "cash"),
-            ({"set": "bank", "bank": 2, "field": "cash", "value": ""}, "banks row 3: number (4)", "cash"),
-            ({"set": "bank", "bank": 2, "field": "cash", "value": "-5"}, "banks row 3: number (4)", "cash"),
-            ({"set": "bank", "bank": 2, "field": "cash", "value": '1,2"3'}, "banks row 3: number (4)", "cash"),
-            ({"set": "bank", "bank": 2, "field": "cash", "value": "٣"}, "banks row 3: number (4)", "cash"),
-            ({"set": "bank", "bank": 2, "field": "cash", "value": "1000000000001"}, "banks row 3: limit (6)", "cash"),
-            (
-                {"set": "bank", "bank": 0, "field": "outside", "value": "100000000001"},
-                "banks row 1: limit (6)",
-                "outside",
-            ),
-            ({"set": "bank", "bank": 0, "field": "rule", "value": "pro rata"}, "banks row 1: rule (5)", "rule"),
-            ({"set": "claim", "debt": 6, "value": "1000001"}, "debts row 7: limit (6)", "claim"),
-            ({"set": "claim", "debt": 6, "value": "1.5"}, "debts row 7: number (4)", "claim"),
-            ({**add, "creditor": "Nobody"}, "debts row 41: unknown bank (8)", "creditor"),
-            ({**add, "creditor": "Kemi"}, "debts row 41: self debt (9)", "creditor"),
-            ({**add, "creditor": "a,b"}, "debts row 41: name (3)", "creditor"),
-            ({**add, "class": "10"}, "debts row 41: class (10)", "class"),
-            ({**add, "claim": "much"}, "debts row 41: number (4)", "claim"),
-            (
-                {"set": "add", "debtor": there[0], "creditor": there[1], "class": there[2], "claim": "1"},
-                "debts row 41: double debt (11)",
-                "creditor",
-            ),
-            ({"set": "cut", "value": "1001"}, "scenarios row 1: limit (6)", "cut"),
-            ({"set": "cut", "value": "half"}, "scenarios row 1: shape (17)", "cut"),
-            ({"set": "cut", "value": "9" * 20}, "scenarios row 1: shape (17)", "cut"),
-            ({"set": "keep", "value": "1001"}, "'1001' is no value of --keep: it is a number from 0 to 1,000", "keep"),
-            ({"set": "cut", "value": "95%"}, "scenarios row 1: shape (17)", "cut"),
-            (
-                {"set": "keep", "value": "x"},
-                "'x' is no value of --keep: a number is 1 to 20 digits 0 to 9, and nothing else",
-                "keep",
-            ),
-        ]
-        for change, said, field in table:
-            fault = desk.change(good["id"], 422, **change)
-            self.assertEqual((fault["said"], fault["field"]), (said, field), change)
-        # No state was made, and the last good one is as it was.
+        for change, _, _ in FAULTS:
+            desk.change(good["id"], 422, **change)
         self.assertEqual(desk.see(f"/state/{good['id']}"), good)
         self.assertEqual(desk.change(good["id"], set="cut", value="101")["id"], good["id"] + 1)
 

@@ -117,7 +117,9 @@ class Numbers(DeskCase):
             self.assertEqual(desk.see(f"/take/{at}/debts").decode().splitlines(), debts)
             self.assertEqual(desk.see(f"/take/{at}/banks").decode().splitlines(), banks)
         self.assertEqual(desk.see(f"/state/{at}")["line"], list(range(len(steps) + 1)))
-        # A change back is the state as it is.
+
+    def test_a_change_back_is_the_state_as_it_is(self):
+        desk = self.desk()
         self.assertEqual(desk.change(0, set="cut", value="0")["id"], 0)
         struck = desk.change(0, set="strike", debt=2)["id"]
         self.assertEqual(

@@ -7,16 +7,19 @@ import subprocess
 import unittest
 
 import browser
+from browser import Keys
 from common import ROOT, files_of, needs
 from desk import SCENARIOS
 from desk_page import DeskPage, strip
 from odd_names import MARKUP
 
+# What the tabulator must come to: controls by their names, banks by their places, links by their texts.
+CONTROLS = ["find", "Take away", "against", "cut-slide", "cut", "scenario", "keep-slide", "keep", "build-open"]
+CONTROLS += ["0", "11", "keep-open"]
+
 
 class Access(DeskPage):
-    def test_the_keyboard_alone_does_it_all(self):
-        from selenium.webdriver.common.keys import Keys
-
+    def test_each_control_of_the_page_is_reached_by_the_tabulator(self):
         self.open(None, "--scenarios", SCENARIOS)
         self.js("document.activeElement.blur()")
         reached = []
@@ -25,21 +28,11 @@ class Access(DeskPage):
             reached.append(
                 self.js("const e = document.activeElement; return e.id || e.dataset.bank || e.textContent.trim()")
             )
-        for key in (
-            "find",
-            "Take away",
-            "against",
-            "cut-slide",
-            "cut",
-            "scenario",
-            "keep-slide",
-            "keep",
-            "build-open",
-            "0",
-            "11",
-            "keep-open",
-        ):
+        for key in CONTROLS:
             self.assertIn(key, reached)
+
+    def test_a_slider_is_moved_by_keys_and_its_number_goes_along(self):
+        self.open(None, "--scenarios", SCENARIOS)
         self.focus("cut-slide")
         self.press(Keys.END)
         self.until_state(1)
@@ -49,30 +42,40 @@ class Access(DeskPage):
         self.press(Keys.ARROW_LEFT)
         self.until_state(2)
         self.assertEqual(self.js("return document.getElementById('cut').value"), "999")
+
+    def open_bank_by_keys(self) -> None:
+        """Goes from the picture to Dunmore, by the keyboard."""
+        self.open(None, "--scenarios", SCENARIOS)
         self.js("document.querySelector('#picture a[data-bank=\"3\"]').focus()")
         self.press(Keys.ENTER)
         self.until(lambda: self.js("return document.activeElement.id") == "bank-name")
         self.assertIn("Dunmore", self.text("bank-name"))
+
+    def test_a_bank_is_opened_and_changed_by_the_keyboard_and_keeps_the_focus(self):
+        self.open_bank_by_keys()
         self.unfold("change-bank")
         self.js("document.querySelector('#change-bank summary').focus()")
         self.press(Keys.TAB)
         self.assertEqual(self.js("return document.activeElement.id"), "cash")
         self.chord(Keys.CONTROL, "a")
         self.press("123456789", Keys.ENTER)
-        self.until_state(3)
+        self.until_state(1)
         self.until(lambda: self.js("return document.getElementById('cash')?.value") == "123456789")
         self.until(lambda: self.js("return document.activeElement.id") == "cash")
         self.press(Keys.TAB)
         self.assertEqual(self.js("return document.activeElement.id"), "outside")
-        # What had the focus goes with its debt, and its part has it then.
+
+    def test_where_what_had_the_focus_goes_its_part_has_it(self):
+        self.open_bank_by_keys()
+        self.unfold("change-bank")
         debt = self.js("return document.querySelector('#owes button[id^=strike]').id")
         self.focus(debt)
         self.press(Keys.ENTER)
-        self.until_state(4)
+        self.until_state(1)
         self.until(lambda: self.js("return document.activeElement.id") == "bank-name")
         self.js("[...document.querySelectorAll('#changes button')].at(-1).focus()")
         self.press(Keys.ENTER)
-        self.until_state(5)
+        self.until_state(2)
         self.until(lambda: self.js("return document.activeElement.id") == "changes")
         self.until(lambda: self.js("return !!document.getElementById(arguments[0])", debt))
 

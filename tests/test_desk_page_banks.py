@@ -2,6 +2,7 @@
 import re
 import unittest
 
+from browser import Keys
 from common import TWELVE, clearing, files_of
 from desk import payments_of, wrapped
 from desk_page import DeskPage, large, strip
@@ -33,29 +34,29 @@ class Banks(DeskPage):
             self.until(lambda: words in self.text(f"answer-{what}"))
         self.until(lambda: "It is in default without a cut." in self.text("breaks"))
 
-    def test_why_is_an_account_that_adds_up_and_each_debtor_opens(self):
+    def open_fjord(self) -> None:
+        """Opens the account of Fjord, after nearly all cash was lost."""
         self.open(None, "--unit", "1000", "--currency", "EUR")
         self.slide("cut", 950)
         self.until_state(1)
         self.choose(5)
         self.until(lambda: len(self.account()) > 3)
-        lines = self.account()
+
+    def test_why_is_an_account_that_adds_up(self):
+        self.open_fjord()
+        # What a line is called, its units as it was given, and those of the state.
         self.assertEqual(
-            [line[0] for line in lines],
+            [tuple(line[:3]) for line in self.account()],
             [
-                "All its cash, and all debtors pay",
-                "loss of its cash",
-                "unpaid by Birk",
-                "unpaid by Isar",
-                "unpaid by Jura",
-                "debts outside",
-                "Left; below 0: lacking",
+                ("All its cash, and all debtors pay", 1965000, 1965000),
+                ("loss of its cash", 0, -950000),
+                ("unpaid by Birk", 0, -500000),
+                ("unpaid by Isar", -133333, -500000),
+                ("unpaid by Jura", 0, -25000),
+                ("debts outside", 0, 0),
+                ("Left; below 0: lacking", 1831667, -10000),
             ],
         )
-        for column in (1, 2):
-            self.assertEqual(sum(line[column] for line in lines[:-1]), lines[-1][column])
-        self.assertEqual([line[2] for line in lines], [1965000, -950000, -500000, -500000, -25000, 0, -10000])
-        self.assertEqual([line[1] for line in lines], [1965000, 0, 0, -133333, 0, 0, 1831667])
         self.assertEqual(
             self.text("bank-lead").replace("\u00a0", " "), "It lacks EUR 10 million of the EUR 150 million it owes."
         )
@@ -63,7 +64,9 @@ class Banks(DeskPage):
             self.js("return document.querySelector('#account caption').innerText"),
             "The account of what it lacks, EUR thousand, to the last unit",
         )
-        # A debtor opens in turn, and one of its own debtors within.
+
+    def test_each_debtor_of_an_account_opens_and_one_of_its_own_within(self):
+        self.open_fjord()
         self.js("document.querySelector('#account .opens[data-bank=\"9\"]').click()")
         said = (
             "990,000 with all; less 950,000 of its cash, less 100,000 unpaid by Elbe: Jura lacks 60,000. It pays Fjord"
@@ -74,12 +77,15 @@ class Banks(DeskPage):
         self.until(lambda: "Elbe lacks 1,776" in strip(self.js("return document.querySelector('#account').innerText")))
         for words in ("cause", "because", "creditors lose", "by contagion"):
             self.assertNotIn(words, self.js("return document.body.innerText"))
-        # Each bank of each state adds up, also where the rest is a sum.
+
+    def test_the_account_of_each_bank_adds_up_also_where_the_rest_is_a_sum(self):
+        self.open_fjord()
         for bank in range(12):
             self.choose(bank)
             self.until(lambda: self.js("return document.getElementById('bank').dataset.of") == str(bank))
             lines = self.account()
-            self.assertEqual(sum(line[2] for line in lines[:-1]), lines[-1][2], bank)
+            for column in (1, 2):
+                self.assertEqual(sum(line[column] for line in lines[:-1]), lines[-1][column], bank)
 
     def test_a_bank_that_is_pointed_at_or_chosen_is_so_in_all_places(self):
         self.open()
@@ -122,8 +128,6 @@ class Banks(DeskPage):
         self.until(lambda: "Elbe" in self.text("bank-name"))
 
     def test_a_bank_is_found_among_a_thousand(self):
-        from selenium.webdriver.common.keys import Keys
-
         self.open(large(self.folder, 1000, 3000), "--labels", self.file("l.csv", "code,name\nbank 555,Osuuspankki Å\n"))
         self.focus("find")
         self.press("ank 77")
@@ -163,8 +167,6 @@ class Banks(DeskPage):
         self.until(lambda: " per mille of the cash before this cut (" in self.text("breaks"))
 
     def test_a_question_that_takes_time_says_how_far_it_is_and_is_stopped(self):
-        from selenium.webdriver.common.keys import Keys
-
         files = large(self.folder, 62, 62)
         self.open(files, program=wrapped(self, "case $1 in outcomes|rescues) sleep 0.7;; esac"))
         # So many banks are not asked for unasked.

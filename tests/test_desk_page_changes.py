@@ -2,6 +2,7 @@
 import re
 import unittest
 
+from browser import Keys
 from common import TWELVE, files_of
 from desk import SCENARIOS, payments_of, standings, wrapped
 from desk_page import DeskPage
@@ -77,8 +78,6 @@ class Changes(DeskPage):
         self.assertEqual(self.text("told"), "Nothing differs")
 
     def test_undo_redo_and_as_it_is(self):
-        from selenium.webdriver.common.keys import Keys
-
         self.open()
         shown = {0: self.picture()}
         for number, cut in ((1, 100), (2, 500), (3, 900)):
@@ -87,7 +86,7 @@ class Changes(DeskPage):
             shown[number] = self.picture()
         self.assertEqual(len({tuple(titles) for titles in shown.values()}), 4)
 
-        def is_at(number):
+        def is_at(number: int) -> None:
             self.until_state(number)
             self.until(lambda: self.picture() == shown[number])
 

@@ -1,8 +1,10 @@
 """States and cases side by side on the desk's page, banks that one unit decides, and the source of each figure."""
 import csv
 import io
+import pathlib
 import unittest
 from xml.etree import ElementTree
+from typing import Tuple
 
 from common import ROOT, TWELVE, files_of
 from desk import payments_of, standings
@@ -23,7 +25,7 @@ DRAWN = """return createImageBitmap(given.at(-1)).then(bitmap => {
 
 
 class Compared(DeskPage):
-    def shock(self, cut):
+    def shock(self, cut: int) -> pathlib.Path:
         """A file of one scenario that cuts all cash."""
         return self.file(f"cut-{cut}.toml", f'[[scenario]]\nname = "s"\ncut = {cut}\n')
 
@@ -112,7 +114,8 @@ class Compared(DeskPage):
         self.until(lambda: marked("#differences tbody th") == ["B ≈", "C ≈"])
         self.assertEqual(self.js("return document.getElementById('bank-decided')"), None)
 
-    def test_a_figure_has_its_source_wherever_it_goes(self):
+    def open_for_files(self) -> str:
+        """Opens a state that is kept, where each file that the page gives is held back: the source of its figures."""
         self.open(None, "--unit", "1000", "--currency", "EUR", "--title", "Twelve banks, and a comma")
         self.slide("cut", 950)
         self.until_state(1)
@@ -124,20 +127,25 @@ class Compared(DeskPage):
             " this.download; };"
         )
         version = (ROOT / "VERSION").read_text().strip()
-        source = (
+        return (
             f"Source: clearing {version}, stress and bounds. Twelve banks, and a comma, “A hard cut” against “As it"
             " is”. One unit of account is EUR 1,000."
         )
 
-        def taken(key):
-            self.js(
-                "given.length = 0; given.name = null; document.querySelector(`[data-file='${arguments[0]}']`).click()",
-                key,
-            )
-            self.until(lambda: self.js("return given.name"))
-            return self.js("const blob = given.at(-1); return blob.text().then(text => [given.name, blob.type, text])")
+    def given(self, key: str) -> Tuple[str, str, str]:
+        """The name, the kind and the text of a file that the page gives."""
+        self.js(
+            "given.length = 0; given.name = null; document.querySelector(`[data-file='${arguments[0]}']`).click()", key
+        )
+        self.until(lambda: self.js("return given.name"))
+        name, kind, text = self.js(
+            "const blob = given.at(-1); return blob.text().then(text => [given.name, blob.type, text])"
+        )
+        return name, kind, text
 
-        name, kind, text = taken("differences.CSV")
+    def test_the_table_of_differences_has_its_source_in_each_row(self):
+        source = self.open_for_files()
+        name, kind, text = self.given("differences.CSV")
         self.assertEqual((name, kind), ("differences.csv", "text/csv;charset=utf-8"))
         rows = list(csv.DictReader(io.StringIO(text.replace("\u00a0", " "))))
         now = standings("defaults", *self.taken_files())
@@ -149,16 +157,19 @@ class Compared(DeskPage):
             [int(row["unpaid_before"]) for row in rows], [int(row[3]) - int(row[2]) for row in self.base()]
         )
         self.assertEqual({row["source"] for row in rows}, {source})
+
+    def test_a_picture_has_its_source_and_its_colours_without_the_page(self):
+        source = self.open_for_files()
         for key, title in (("picture", "join those in default"), ("curve", "fall at some cut")):
-            name, kind, text = taken(f"{key}.SVG")
+            _, kind, text = self.given(f"{key}.SVG")
             self.assertEqual(kind, "image/svg+xml")
             tree = ElementTree.fromstring(text)
             words = strip(" ".join("".join(part.itertext()) for part in tree.iter("{http://www.w3.org/2000/svg}text")))
             self.assertIn(source.partition(" bounds. ")[2] if key == "curve" else source, words)
             self.assertIn(title, words)
             self.assertNotIn("var(", text)
-            # The drawing has its colours without the page, as a PNG of it has too.
-            taken(f"{key}.PNG")
+            # And so has a PNG of it.
+            self.given(f"{key}.PNG")
             drawn, coloured = self.js(DRAWN)
             self.assertGreater(drawn, 2000, key)
             self.assertEqual(coloured > 1000, key == "picture", (key, coloured))

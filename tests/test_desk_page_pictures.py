@@ -6,14 +6,23 @@ import re
 import statistics
 import time
 import unittest
+from typing import Any, List, Tuple
 
 from common import TWELVE, files_of
 from desk_page import DeskPage, large, strip
 
 TICKS = os.sysconf("SC_CLK_TCK")
+Box = Tuple[float, float, float, float]
+"""The left, upper, right and lower end of something that is drawn."""
+# The long names of banks, by their places.
+LONG_LABELS = {
+    9: "Société Générale de Crédit Industriel et Commercial de la Principauté de Monaco S.A.",
+    10: "Österreichische Raiffeisen Zentralgenossenschaft für Steiermark, Kärnten und Tirol AG",
+    7: "Landesbank für Handel, Gewerbe und Landwirtschaft der Norddeutschen Küstenländer AG",
+}
 
 
-def spent_by(process):
+def spent_by(process: int) -> float:
     """The seconds that a process and its ended children have had of the processors."""
     fields = pathlib.Path(f"/proc/{process}/stat").read_bytes().rpartition(b")")[2].split()
     return sum(map(int, fields[11:15])) / TICKS
@@ -43,7 +52,7 @@ class Pictures(DeskPage):
         self.until(lambda: not self.js("return document.getElementById('play')"))
         time.sleep(2)
 
-    def played(self):
+    def played(self) -> List[str]:
         """What the drawing that the journal plays in says of each debt."""
         return sorted(map(strip, self.texts("#journal-picture [data-flow] > title")))
 
@@ -110,30 +119,39 @@ class Pictures(DeskPage):
             )
         )
 
-    def test_names_of_80_signs_stand_apart_and_squeeze_nothing(self):
-        labels = {
-            9: "Société Générale de Crédit Industriel et Commercial de la Principauté de Monaco S.A.",
-            10: "Österreichische Raiffeisen Zentralgenossenschaft für Steiermark, Kärnten und Tirol AG",
-            7: "Landesbank für Handel, Gewerbe und Landwirtschaft der Norddeutschen Küstenländer AG",
-        }
-        self.assertTrue(all(len(name) >= 80 for name in labels.values()))
+    def open_long_names(self) -> None:
+        """Opens sixteen banks of which three have long names, in a state in which many are in default, at one of the
+        three."""
         names = [f"Bank number {at}" for at in range(16)]
-        (self.folder / "banks.csv").write_text(
-            "name,cash,rule\n" + "".join(f"{name},{900 + 97 * at % 500},webster\n" for at, name in enumerate(names))
+        banks = "".join(f"{name},{900 + 97 * at % 500},webster\n" for at, name in enumerate(names))
+        debts = "".join(
+            f"{name},{names[(at + step) % 16]},1,{400 + 37 * at * step % 700}\n"
+            for at, name in enumerate(names)
+            for step in (1, 3, 7)
         )
-        (self.folder / "debts.csv").write_text(
-            "debtor,creditor,class,claim\n"
-            + "".join(
-                f"{name},{names[(at + step) % 16]},1,{400 + 37 * at * step % 700}\n"
-                for at, name in enumerate(names)
-                for step in (1, 3, 7)
-            )
-        )
-        text = "code,name\n" + "".join(f'{names[at]},"{label}"\n' for at, label in labels.items())
+        self.file("banks.csv", "name,cash,rule\n" + banks)
+        self.file("debts.csv", "debtor,creditor,class,claim\n" + debts)
+        text = "code,name\n" + "".join(f'{names[at]},"{label}"\n' for at, label in LONG_LABELS.items())
         self.open(files_of(self.folder), "--labels", self.file("l.csv", text), "--unit", "100000", "--currency", "EUR")
         self.slide("cut", 750)
         self.until_state(1)
         self.choose(9)
+
+    def boxes_of_names(self) -> Tuple[Box, List[List[Box]]]:
+        """The room of the picture below its title, and for each bank the boxes of its texts."""
+        room, nodes = self.js(
+            """const svg = document.querySelector('#picture svg'), all = svg.getBoundingClientRect();
+            const title = document.getElementById('picture-unit').getBoundingClientRect();
+            const nodes = [...svg.querySelectorAll('a.node')];
+            return [[all.left, title.bottom, all.right, all.bottom], nodes.map(node =>
+                [...node.querySelectorAll('text')].map(t => {
+                const b = t.getBoundingClientRect(); return [b.left, b.top, b.right, b.bottom]; }))]"""
+        )
+        return room, nodes
+
+    def test_names_of_80_signs_stand_apart_and_squeeze_nothing(self):
+        self.assertTrue(all(len(name) >= 80 for name in LONG_LABELS.values()))
+        self.open_long_names()
         for wide in (1280, 800):
             self.size(wide, 900)
             self.until(
@@ -142,31 +160,19 @@ class Pictures(DeskPage):
                     " Number(document.querySelector('#picture svg').getAttribute('width'))) < 2"
                 )
             )
-            boxes = self.js(
-                """const svg = document.querySelector('#picture svg'), all = svg.getBoundingClientRect();
-                const title = document.getElementById('picture-unit').getBoundingClientRect();
-                const nodes = [...svg.querySelectorAll('a.node')];
-                return [[all.left, title.bottom, all.right, all.bottom], nodes.map(node =>
-                    [...node.querySelectorAll('text')].map(t => {
-                    const b = t.getBoundingClientRect(); return [b.left, b.top, b.right, b.bottom]; }))]"""
-            )
-            (left, top, right, bottom), nodes = boxes
+            (left, top, right, bottom), nodes = self.boxes_of_names()
             for at, own in enumerate(nodes):
                 for box in own:
-                    self.assertTrue(
-                        left - 2 <= box[0] and box[2] <= right + 2 and top - 2 <= box[1] and box[3] <= bottom + 2,
-                        (wide, at, box, boxes[0]),
-                    )
+                    across = left - 2 <= box[0] and box[2] <= right + 2
+                    down = top - 2 <= box[1] and box[3] <= bottom + 2
+                    self.assertTrue(across and down, (wide, at, box))
                     for other in (box_ for node in nodes[at + 1 :] for box_ in node):
-                        self.assertFalse(
-                            min(box[2], other[2]) - max(box[0], other[0]) > 1
-                            and min(box[3], other[3]) - max(box[1], other[1]) > 4,
-                            (wide, at, box, other),
-                        )
-            self.assertGreater(
-                self.js("return document.querySelector('#account tbody th').getBoundingClientRect().width"), 120
-            )
-            self.assertIn(labels[9], self.js("return document.querySelector('#differences tr.chosen').innerText"))
+                        across = min(box[2], other[2]) - max(box[0], other[0])
+                        down = min(box[3], other[3]) - max(box[1], other[1])
+                        self.assertFalse(across > 1 and down > 4, (wide, at, box, other))
+            width = self.js("return document.querySelector('#account tbody th').getBoundingClientRect().width")
+            self.assertGreater(width, 120)
+            self.assertIn(LONG_LABELS[9], self.js("return document.querySelector('#differences tr.chosen').innerText"))
 
     def test_each_change_comes_to_its_picture_and_the_time_is_told(self):
         self.run_of("Performance.enable", timeDomain="threadTicks")
@@ -183,7 +189,7 @@ class Pictures(DeskPage):
                 self.driver.get("about:blank")
                 self.desk.end()
 
-    def measured(self, times):
+    def measured(self, times: int) -> Tuple[Any, Any]:
         """For some changes of the cut, the milliseconds from each to its picture, and those of the processors."""
         clock, spent = [], []
         for number in range(1, times + 1):
@@ -195,7 +201,7 @@ class Pictures(DeskPage):
             spent.append(1000 * (spent_by(self.desk.process.pid) + self.page_time() - before))
         return clock, spent
 
-    def page_time(self):
+    def page_time(self) -> Any:
         """The seconds that the page has had of the processor."""
         return {part["name"]: part["value"] for part in self.run_of("Performance.getMetrics")["metrics"]}[
             "TaskDuration"

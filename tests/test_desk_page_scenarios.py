@@ -1,18 +1,28 @@
 """Scenarios that are built on the desk's page, sessions that are opened elsewhere, and the tour of the guide."""
 import re
 import unittest
+from typing import List
 
 from common import ROOT, TWELVE, files_of
 from desk import SCENARIOS, standings
 from desk_page import DeskPage
 
+# The account of Fjord in the tour: what each line is called, and its units.
+FJORD = [
+    ("All its cash, and all debtors pay", 1965000),
+    ("loss of its cash", -1000000),
+    ("unpaid by Birk", -500000),
+    ("unpaid by Isar", -500000),
+    ("debts outside", 0),
+    ("Left; below 0: lacking", -35000),
+]
+
 
 class Scenarios(DeskPage):
-    def test_a_scenario_of_three_banks_is_built_kept_and_written(self):
+    def test_a_scenario_of_the_file_sets_the_cut_and_says_so(self):
         self.open(None, "--scenarios", SCENARIOS)
         self.slide("cut", 500)
         self.until_state(1)
-        # A scenario of the file sets the cut, and says so.
         self.pick("scenario", "2")
         self.until_state(2)
         self.assertEqual(
@@ -21,30 +31,43 @@ class Scenarios(DeskPage):
         self.click("undo")
         self.until_state(1)
         self.assertEqual(self.js("return document.getElementById('cut').value"), "500")
+
+    def build_three_at_once(self) -> List[List[str]]:
+        """Opens the desk, builds a scenario of three banks, and tells what the program says of it."""
+        self.open(None, "--scenarios", SCENARIOS)
         self.click("build-open")
         self.build([("Kemi", "2,000,000"), ("Havel", "4000000"), ("Isar", "1000000")], "Three at once", "100")
-        self.until_state(3)
-        self.assertIn("Three at once", self.text("changes"))
-        self.assertEqual(self.js("return document.getElementById('scenario').selectedOptions[0].text"), "Three at once")
+        self.until_state(1)
         mine = '[[scenario]]\nname = "s"\ncut = 100\n' + "".join(
             f'[[scenario.loss]]\nbank = "{bank}"\namount = {amount}\n'
             for bank, amount in (("Kemi", 2000000), ("Havel", 4000000), ("Isar", 1000000))
         )
-        now = standings("stress", *files_of(TWELVE), "--scenarios", self.file("mine.toml", mine))
-        self.assertEqual(self.text("sum-keeps"), f"{sum(int(row[4]) for row in now):,} units")
-        # It stands in the file that is taken away, behind those that were given, and the program reads it.
+        return standings("stress", *files_of(TWELVE), "--scenarios", self.file("mine.toml", mine))
+
+    def test_a_scenario_of_three_banks_is_built_and_cleared(self):
+        banks = self.build_three_at_once()
+        self.assertIn("Three at once", self.text("changes"))
+        self.assertEqual(self.js("return document.getElementById('scenario').selectedOptions[0].text"), "Three at once")
+        self.assertEqual(self.text("sum-keeps"), f"{sum(int(row[4]) for row in banks):,} units")
+
+    def test_a_scenario_that_was_built_is_written_behind_those_that_were_given(self):
+        banks = self.build_three_at_once()
         text = self.taken("scenarios").decode()
         names = re.findall('name = "(.*)"', text)
         self.assertEqual(names, [*re.findall('name = "(.*)"', SCENARIOS.read_text()), "Three at once"])
+        # And the program reads it.
         written, given = (
             self.printed("outcomes", *files_of(TWELVE), "--scenarios", file).splitlines()
             for file in (self.file("all.toml", text), SCENARIOS)
         )
         self.assertEqual(written[1 : len(names)], given[1 : len(names)])
-        self.assertEqual(int(written[len(names)].split(",")[4]), sum(int(row[4]) for row in now))
-        # One of the file is edited in a copy, and the file stays as it is.
+        self.assertEqual(int(written[len(names)].split(",")[4]), sum(int(row[4]) for row in banks))
+
+    def test_a_scenario_of_the_file_is_edited_in_a_copy_and_stays_as_it_is(self):
+        self.open(None, "--scenarios", SCENARIOS)
+        names = re.findall('name = "(.*)"', SCENARIOS.read_text())
         self.pick("scenario", "2")
-        self.until_state(4)
+        self.until_state(1)
         self.click("build-copy")
         self.assertEqual(
             self.js(
@@ -53,9 +76,10 @@ class Scenarios(DeskPage):
             ),
             [f"{names[1]} (copy)", ["Havel", "Kemi"]],
         )
+        options = self.js("return document.getElementById('scenario').options.length")
         self.click("build-done")
-        self.until_state(5)
-        self.assertEqual(self.js("return document.getElementById('scenario').options.length"), len(names) + 2)
+        self.until_state(2)
+        self.assertEqual(self.js("return document.getElementById('scenario').options.length"), options + 1)
 
     def test_a_scenario_that_is_none_is_told_at_its_field(self):
         self.open()
@@ -107,45 +131,53 @@ class Scenarios(DeskPage):
         )
 
     def test_the_tour_of_the_guide_is_so(self):
-        guide = re.sub(r"\s+", " ", (ROOT / "docs/GUIDE.md").read_text(encoding="utf-8"))
-        said = lambda words: self.assertIn(words, guide)  # noqa: E731
+        """Each step begins where the one before it ended, and what the page then says stands in the guide."""
+        self.guide = re.sub(r"\s+", " ", (ROOT / "docs/GUIDE.md").read_text(encoding="utf-8"))
         self.open(None, "--scenarios", SCENARIOS, "--unit", "1000", "--currency", "EUR", "--title", "Twelve banks")
-        said("--unit 1000 --currency EUR --title 'Twelve banks'")
-        self.assertEqual(self.text("told"), "Four of twelve banks are in default; EUR 1.49 billion stays unpaid")
-        said(self.text("told"))
-        # A shock of three banks.
+        self.assertIn("--unit 1000 --currency EUR --title 'Twelve banks'", self.guide)
+        self.told_as_in_the_guide("Four of twelve banks are in default; EUR 1.49 billion stays unpaid")
+        self.a_shock_of_three_banks()
+        self.who_falls_and_why_to_the_last_unit()
+        self.saved_and_opened_elsewhere()
+        self.against_a_rescue()
+        page = self.taken("report").decode()
+        self.assertIn("Twelve banks: Fjord is helped", page)
+        self.assertIn("Fjord: cash 1,035,000 in place of 1,000,000.", page)
+
+    def told_as_in_the_guide(self, words: str, key: str = "told") -> None:
+        """An element of the page says these words, and so does the guide."""
+        self.assertEqual(self.text(key), words)
+        self.assertIn(words, self.guide)
+
+    def a_shock_of_three_banks(self) -> None:
+        """A scenario is built, in which one bank more falls."""
         self.click("build-open")
         self.build([("Birk", "1,500,000"), ("Isar", "1,000,000"), ("Fjord", "1,000,000")], "Three banks", "0")
         self.until_state(1)
-        self.assertEqual(self.text("told"), "Fjord joins those in default; EUR 3.00 billion more stays unpaid")
-        said(self.text("told"))
-        # Who falls and why, to the last unit.
+        self.told_as_in_the_guide("Fjord joins those in default; EUR 3.00 billion more stays unpaid")
+
+    def who_falls_and_why_to_the_last_unit(self) -> None:
+        """The account of this bank, and what would save it."""
         self.choose(5)
         self.until(lambda: len(self.account()) > 3)
-        self.assertEqual(self.text("bank-lead"), "It lacks EUR 35 million of the EUR 150 million it owes.")
-        said(self.text("bank-lead"))
+        self.told_as_in_the_guide("It lacks EUR 35 million of the EUR 150 million it owes.", "bank-lead")
         lines = self.account()
-        self.assertEqual(
-            [(line[0], line[-1]) for line in lines],
-            [
-                ("All its cash, and all debtors pay", 1965000),
-                ("loss of its cash", -1000000),
-                ("unpaid by Birk", -500000),
-                ("unpaid by Isar", -500000),
-                ("debts outside", 0),
-                ("Left; below 0: lacking", -35000),
-            ],
-        )
+        self.assertEqual([(line[0], line[-1]) for line in lines], FJORD)
         for words, *_, amount in lines:
-            said(f"| {words} | {amount:,} |".replace("-", "−"))
+            self.assertIn(f"| {words} | {amount:,} |".replace("-", "−"), self.guide)
         self.click("ask-rescue")
-        self.until(lambda: "EUR 35 million more of cash lets it pay in full." in self.text("answer-rescue"))
-        said("EUR 35 million more of cash lets it pay in full.")
-        # Saved, and opened elsewhere.
+        rescue = "EUR 35 million more of cash lets it pay in full."
+        self.until(lambda: rescue in self.text("answer-rescue"))
+        self.assertIn(rescue, self.guide)
+
+    def saved_and_opened_elsewhere(self) -> None:
+        """The state is kept, and a session opened again."""
         self.keep("Three banks", "for the meeting of Monday")
         self.open_session(self.file("session.zip", self.taken("session")))
         self.assertEqual(self.text("told"), "Fjord joins those in default; EUR 3.00 billion more stays unpaid")
-        # Against a rescue.
+
+    def against_a_rescue(self) -> None:
+        """The bank gets what it lacks, and both states stand side by side."""
         at = self.state()
         self.choose(5)
         self.unfold("change-bank")
@@ -153,12 +185,7 @@ class Scenarios(DeskPage):
         self.until(lambda: self.state() != at)
         self.keep("Fjord is helped")
         self.against("Three banks")
-        self.assertEqual(self.text("told"), "Fjord is in default no more; EUR 35 million less stays unpaid")
-        said(self.text("told"))
-        # The report is of the state.
-        page = self.taken("report").decode()
-        self.assertIn("Twelve banks: Fjord is helped", page)
-        self.assertIn("Fjord: cash 1,035,000 in place of 1,000,000.", page)
+        self.told_as_in_the_guide("Fjord is in default no more; EUR 35 million less stays unpaid")
 
 
 if __name__ == "__main__":

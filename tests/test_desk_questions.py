@@ -3,9 +3,10 @@ import pathlib
 import random
 import time
 import unittest
+from typing import Any, Dict, List, Optional, Tuple
 
-from common import TWELVE, clearing, files_of
-from desk import SCENARIOS, DeskCase, standings, wrapped
+from common import TWELVE, files_of, records
+from desk import SCENARIOS, DeskCase, Running, standings, wrapped
 
 from clearing_client import Network, unsteady
 from clearing_client.case import Case as Folder
@@ -13,64 +14,53 @@ from clearing_tools.desk import questions, state as states
 from clearing_tools.desk.runs import Desk as Table, Place, Runs, base_of
 
 
+def grouped(rows: List[List[str]]) -> Dict[str, List[str]]:
+    """The second fields of records by their first ones."""
+    groups: Dict[str, List[str]] = {}
+    for first, second, *_ in rows:
+        groups.setdefault(first, []).append(second)
+    return groups
+
+
 class Questions(DeskCase):
-    def test_what_is_asked_of_a_bank_is_what_the_tools_say(self):
-        desk = self.desk()
-        breaking = dict(line.split(",", 1) for line in self.made("clearing-breaking", *files_of(TWELVE)).splitlines())
-        impact = {
-            line.split(",")[0]: line.split(",")[1:]
-            for line in self.made("clearing-impact", *files_of(TWELVE)).splitlines()
-        }
-        fallen = self.file("fallen.csv")
-        self.made("clearing-impact", *files_of(TWELVE), "--ranking", self.file("r.csv"), "--defaults", fallen)
-        saves = self.file("saves.csv")
+    def test_the_rescue_of_a_bank_and_whom_it_saves_are_those_of_the_tool(self):
+        desk, saves = self.desk(), self.file("saves.csv")
         self.made("clearing-rescues", *files_of(TWELVE), "--output", self.file("o.csv"), "--saved", saves)
-        saved = {}
-        for line in saves.read_text().splitlines()[1:]:
-            saved.setdefault(line.split(",")[0], []).append(line.split(",")[1])
+        saved = grouped(records(saves.read_text()))
         self.assertTrue(saved)
         names = desk.see("/network")["names"]
         for at, name in enumerate(names):
-            rescue = clearing("rescue", *files_of(TWELVE), "--bank", name).stdout.decode().split("\n")[0].split(",")[2]
+            rescue = int(self.printed("rescue", *files_of(TWELVE), "--bank", name).split("\n")[0].split(",")[2])
             one, every = desk.answer(0, "rescue", at)
-            self.assertEqual(one["added"], int(rescue))
-            own = [row for row in every["rows"] if row[0] == at]
-            self.assertEqual(
-                [(row[1], [names[other] for other in row[2]]) for row in own],
-                [(int(rescue), saved.get(name, []))] if int(rescue) else [],
-                name,
-            )
-            cut, state = self.broken(desk, 0)[at]
+            self.assertEqual(one["added"], rescue)
+            own = [(row[1], [names[other] for other in row[2]]) for row in every["rows"] if row[0] == at]
+            self.assertEqual(own, [(rescue, saved.get(name, []))] if rescue else [], name)
+
+    def test_the_cut_at_which_each_bank_falls_is_that_of_the_tool(self):
+        desk = self.desk()
+        breaking = dict(line.split(",", 1) for line in self.made("clearing-breaking", *files_of(TWELVE)).splitlines())
+        broken = self.broken(desk, 0)
+        for at, name in enumerate(desk.see("/network")["names"]):
+            cut, state = broken[at]
             self.assertEqual(f"{1001 if cut is None else cut},{state}", breaking[name])
+
+    def test_the_ruin_of_a_bank_and_of_all_at_once_is_that_of_the_tool(self):
+        desk, fallen = self.desk(), self.file("fallen.csv")
+        impact = {row[0]: row[1:] for row in records(self.made("clearing-impact", *files_of(TWELVE)))}
+        self.made("clearing-impact", *files_of(TWELVE), "--ranking", self.file("r.csv"), "--defaults", fallen)
+        others = grouped([row for row in records(fallen.read_text()) if row[0] != row[1]])
+        names = desk.see("/network")["names"]
+        for at, name in enumerate(names):
             [ruin] = desk.answer(0, "ruin", at)
-            self.assertEqual(
-                [str(ruin[key]) for key in ("cash", "own", "others")] + [str(len(ruin["fallen"]))], impact[name]
-            )
-            by = [
-                line.split(",")[1]
-                for line in fallen.read_text().splitlines()
-                if line.startswith(f"{name},") and line.split(",")[1] != name
-            ]
-            self.assertEqual([names[other] for other in ruin["fallen"]], by)
-        # All banks at once are the same.
+            harm = [*(str(ruin[key]) for key in ("cash", "own", "others")), str(len(ruin["fallen"]))]
+            self.assertEqual(harm, impact[name])
+            self.assertEqual([names[other] for other in ruin["fallen"]], others.get(name, []))
         [ruins] = desk.answer(0, "ruin")
         self.assertEqual([[str(part) for part in row[1:]] for row in ruins["rows"]], [impact[name] for name in names])
-        self.assertEqual(
-            {names[int(at)]: [names[other] for other in of] for at, of in ruins["falls"].items()},
-            {
-                name: of
-                for name in names
-                if (
-                    of := [
-                        line.split(",")[1]
-                        for line in fallen.read_text().splitlines()[1:]
-                        if line.split(",")[0] == name != line.split(",")[1]
-                    ]
-                )
-            },
-        )
+        falls = {names[int(at)]: [names[other] for other in of] for at, of in ruins["falls"].items()}
+        self.assertEqual(falls, others)
 
-    def broken(self, desk, state):
+    def broken(self, desk: Running, state: int) -> Dict[int, Tuple[Optional[int], str]]:
         """The cut that breaks each bank, and how it stands then, by the bank's place."""
         return {at: (cut, how) for piece in desk.answer(state, "breaking") for at, cut, how in piece["exact"]}
 
@@ -164,10 +154,10 @@ class OneUnit(DeskCase):
         files = self.net(banks, "A,B,1,2\nA,C,1,2\nA,D,2,10\nB,D,1,2\n" + large)
         self.assertEqual(self.desk(files).answer(0, "unit")[-1]["banks"], [1])
 
-    def by_costs(self, files, keep):
+    def by_costs(self, files: Any, keep: int) -> List[int]:
         """The banks that are otherwise in `costs` where all amounts are halved or doubled."""
 
-        def places(banks, debts):
+        def places(banks: str, debts: str) -> List[Tuple[str, bool]]:
             return [
                 (row[-1], row[-2] != "0") for row in standings("costs", *self.net(banks, debts), "--keep", str(keep))
             ]

@@ -3,142 +3,165 @@ import hashlib
 import io
 import json
 import os
+import pathlib
 import unittest
 import zipfile
+from typing import Any, Dict, Tuple
 
 from common import TWELVE, files_of, tool
-from desk import PYTHON, SCENARIOS, DeskCase, standings
+from desk import PYTHON, SCENARIOS, DeskCase, Running, standings
+
+NOTE = "a note\nof two lines"
+"""What is noted of the state that is kept."""
 
 
 class Sessions(DeskCase):
-    def saved(self, desk, at=0, name="session.zip"):
+    def saved(self, desk: Running, at: int = 0, name: str = "session.zip") -> pathlib.Path:
+        """The session that a desk gives, with a state at hand."""
         path = self.folder / name
         path.write_bytes(desk.see(f"/take/{at}/session"))
         return path
 
-    def test_a_session_has_the_case_the_states_and_their_notes_and_nothing_else(self):
+    def rich(self) -> Tuple[Running, int]:
+        """A desk of twelve banks, with a scenario that was built and a state that is kept, in which each kind of change
+        was made; and the number of this state."""
         desk = self.desk(
             None, "--scenarios", SCENARIOS, "--unit", "1000", "--currency", "EUR", "--title", "Twelve banks"
         )
-        number = desk.post(
-            "/scenario", name="Three at once", cut="50", losses=[[10, "2000000"], [7, "4,000,000"], [8, "1000000"]]
-        )["number"]
+        losses = [[10, "2000000"], [7, "4,000,000"], [8, "1000000"]]
+        number = desk.post("/scenario", name="Three at once", cut="50", losses=losses)["number"]
         at = desk.change(0, set="scenario", value=number)["id"]
         at = desk.change(at, set="bank", bank=1, field="cash", value="7")["id"]
         at = desk.change(at, set="claim", debt=3, value="11")["id"]
         at = desk.change(at, set="strike", debt=5)["id"]
         at = desk.change(at, set="add", debtor="Kemi", creditor="Isar", claim="3", **{"class": "9"})["id"]
-        kept = desk.post("/keep", state=at, name="All of it", note="a note\nof two lines")
+        desk.post("/keep", state=at, name="All of it", note=NOTE)
+        return desk, at
+
+    def test_a_state_is_kept_with_its_name_and_note_beside_the_case_as_it_is(self):
+        desk, at = self.rich()
         self.assertEqual(
-            kept,
+            desk.see("/kept"),
             [
                 {"name": "As it is", "state": 0, "note": ""},
-                {"name": "All of it", "state": at, "note": "a note\nof two lines"},
+                {"name": "All of it", "state": at, "note": NOTE},
             ],
         )
-        passed = desk.change(at, set="cut", value="77")["id"]
-        before = desk.see(f"/state/{at}")
-        path = self.saved(desk, at)
-        with zipfile.ZipFile(path) as archive:
+
+    def test_a_session_has_the_files_of_the_case_and_one_document(self):
+        desk, at = self.rich()
+        with zipfile.ZipFile(self.saved(desk, at)) as archive:
             self.assertEqual(
                 sorted(archive.namelist()),
                 ["case/banks.csv", "case/datapackage.json", "case/debts.csv", "case/scenarios.toml", "session.json"],
             )
             self.assertEqual(archive.read("case/banks.csv"), (TWELVE / "banks.csv").read_bytes())
             self.assertEqual(archive.read("case/scenarios.toml"), SCENARIOS.read_bytes())
-            document = archive.read("session.json").decode()
+
+    def test_a_session_has_no_state_that_was_passed_and_nothing_of_the_machine(self):
+        desk, at = self.rich()
+        self.assertNotEqual(desk.change(at, set="cut", value="77")["id"], at)
+        document = zipfile.ZipFile(self.saved(desk, at)).read("session.json").decode()
         self.assertNotIn("77", json.dumps([one["state"].get("cut") for one in json.loads(document)["states"]]))
         for word in (str(self.folder), "/tmp", desk.ticket, os.uname().nodename):
             self.assertNotIn(word, document)
-        self.assertNotEqual(passed, at)
-        other = self.desk([], "--session", path)
+
+    def test_a_session_is_opened_with_its_settings_scenarios_states_and_notes(self):
+        desk, at = self.rich()
+        before = desk.see(f"/state/{at}")
+        other = self.desk([], "--session", self.saved(desk, at))
         network = other.see("/network")
         self.assertEqual((network["title"], network["unit"], network["currency"]), ("Twelve banks", "1000", "EUR"))
-        self.assertEqual(
-            network["scenarios"][-1],
-            {
-                "name": "Three at once",
-                "cut": 50,
-                "losses": [[7, 4000000], [8, 1000000], [10, 2000000]],
-                "isBuilt": True,
-            },
-        )
+        losses = [[7, 4000000], [8, 1000000], [10, 2000000]]
+        built = {"name": "Three at once", "cut": 50, "losses": losses, "isBuilt": True}
+        self.assertEqual(network["scenarios"][-1], built)
         [_, one] = other.see("/kept")
-        self.assertEqual((one["name"], one["note"]), ("All of it", "a note\nof two lines"))
+        self.assertEqual((one["name"], one["note"]), ("All of it", NOTE))
         after = other.see(f"/state/{one['state']}")
         for view in (before, after):
             del view["id"], view["line"]
         self.assertEqual(after, before)
-        # It is saved again as it was, and it takes the same away.
-        self.assertEqual(
-            json.loads(zipfile.ZipFile(self.saved(other, one["state"], "again.zip")).read("session.json")),
-            json.loads(document),
-        )
-        self.assertEqual(other.see(f"/take/{one['state']}/debts"), desk.see(f"/take/{at}/debts"))
 
-    def test_what_is_no_session_is_refused(self):
-        good = self.saved(self.desk())
-        files = {name: zipfile.ZipFile(good).read(name) for name in zipfile.ZipFile(good).namelist()}
-        state = lambda value: json.dumps(
-            {"session": 1, "states": [{"name": "s", "note": "", "state": value}], "atHand": {}}
-        ).encode()  # noqa: E731
-        table = [
-            (None, 3, "cannot read"),
-            (b"", 4, "is no session"),
-            (b"PK\x03\x04 and so on", 4, "is no session"),
-            ({**files, "session.json": b"["}, 4, "is no session"),
-            ({**files, "session.json": b"[]"}, 4, "that this one can open"),
-            ({**files, "session.json": b'{"session": 2}'}, 4, "that this one can open"),
-            ({"session.json": files["session.json"]}, 4, "has no banks.csv"),
-            ({**files, "case/banks.csv": b"name,cash,rule\nA,x,order\n"}, 4, "banks row 1: number (4)"),
-            ({**files, "session.json": state({"cut": "1001"})}, 4, "scenarios row 1: limit (6)"),
-            ({**files, "session.json": state({"cut": 5})}, 4, "cut is no line"),
-            ({**files, "session.json": state({"claims": {"40": "5"}})}, 4, "a key is no place"),
-            ({**files, "session.json": state({"banks": {"0": ["1", "order"]}})}, 4, "another length"),
-            ({**files, "session.json": state({"added": [["A", "B", "1", "x"]]})}, 4, "unknown bank"),
-            ({**files, "session.json": state({"new": 1})}, 4, "other keys"),
-            ({**files, "session.json": state([])}, 4, "other keys"),
-            ({**files, "session.json": state({"losses": [[99, 1]]})}, 4, "bank is no place"),
-            ({**files, "session.json": b'{"session": 1, "states": 5}'}, 4, "no list of states"),
-            (
-                {**files, "session.json": b'{"session": 1, "scenarios": [["s", 2000, []]]}'},
-                4,
-                "a cut is a whole number",
-            ),
-            # More than a file may have, however small it is packed.
-            ({**files, "case/banks.csv": b"x" * 168_000_000}, 4, "longer than it may be"),
-            ({**files, "session.json": b" " * 70_000_000}, 4, "longer than it may be"),
+    def test_a_session_that_was_opened_is_saved_as_it_was_and_takes_the_same_away(self):
+        desk, at = self.rich()
+        first = self.saved(desk, at)
+        other = self.desk([], "--session", first)
+        state = other.see("/kept")[1]["state"]
+        documents = [
+            json.loads(zipfile.ZipFile(path).read("session.json"))
+            for path in (first, self.saved(other, state, "again.zip"))
         ]
-        for content, status, said in table:
-            path = self.folder / "other.zip"
-            path.unlink(missing_ok=True)
-            if isinstance(content, dict):
-                with zipfile.ZipFile(path, "w", zipfile.ZIP_DEFLATED) as archive:
-                    for name, data in content.items():
-                        archive.writestr(name, data)
-            elif content is not None:
-                path.write_bytes(content)
-            done = tool(
-                "clearing-desk", "--session", path, "--no-browser", python=PYTHON
-            )
-            self.assertEqual((done.returncode, done.stdout), (status, ""), (said, done.stderr))
-            self.assertIn(said, done.stderr)
-        # Names that lead elsewhere are passed over.
-        with zipfile.ZipFile(self.folder / "odd.zip", "w") as archive:
-            for name, data in {
-                **files,
-                "../evil.txt": b"x",
-                "/tmp/desk-evil": b"x",
-                "case/../../evil.txt": b"x",
-                "case/more.txt": b"x",
-            }.items():
+        self.assertEqual(documents[1], documents[0])
+        self.assertEqual(other.see(f"/take/{state}/debts"), desk.see(f"/take/{at}/debts"))
+
+    def parts(self) -> Dict[str, bytes]:
+        """What a session has, by the names of its files."""
+        with zipfile.ZipFile(self.saved(self.desk())) as archive:
+            return {name: archive.read(name) for name in archive.namelist()}
+
+    def packed(self, parts: Dict[str, bytes]) -> pathlib.Path:
+        """An archive of some files."""
+        path = self.folder / "other.zip"
+        with zipfile.ZipFile(path, "w", zipfile.ZIP_DEFLATED) as archive:
+            for name, data in parts.items():
                 archive.writestr(name, data)
-        desk = self.desk([], "--session", self.folder / "odd.zip")
+        return path
+
+    def refused_session(self, path: pathlib.Path, status: int, message: str) -> None:
+        """No desk opens a file."""
+        done = tool("clearing-desk", "--session", path, "--no-browser", python=PYTHON)
+        self.assertEqual((done.returncode, done.stdout), (status, ""), (message, done.stderr))
+        self.assertIn(message, done.stderr)
+
+    def test_a_file_that_is_no_archive_is_refused(self):
+        self.refused_session(self.folder / "none.zip", 3, "cannot read")
+        for content in (b"", b"PK\x03\x04 and so on"):
+            self.refused_session(self.file("other.zip", content), 4, "is no session")
+
+    def test_an_archive_that_is_no_session_is_refused(self):
+        parts = self.parts()
+        for changed, message in [
+            ({"session.json": b"["}, "is no session"),
+            ({"session.json": b"[]"}, "that this one can open"),
+            ({"session.json": b'{"session": 2}'}, "that this one can open"),
+            ({"case/banks.csv": b"name,cash,rule\nA,x,order\n"}, "banks row 1: number (4)"),
+            ({"session.json": b'{"session": 1, "states": 5}'}, "no list of states"),
+            ({"session.json": b'{"session": 1, "scenarios": [["s", 2000, []]]}'}, "a cut is a whole number"),
+            # More than a file may have, however small it is packed.
+            ({"case/banks.csv": b"x" * 168_000_000}, "longer than it may be"),
+            ({"session.json": b" " * 70_000_000}, "longer than it may be"),
+        ]:
+            with self.subTest(changed=str(changed)[:80]):
+                self.refused_session(self.packed({**parts, **changed}), 4, message)
+        self.refused_session(self.packed({"session.json": parts["session.json"]}), 4, "has no banks.csv")
+
+    def test_a_session_with_a_state_that_no_desk_makes_is_refused(self):
+        parts = self.parts()
+        for state, message in [
+            ({"cut": "1001"}, "scenarios row 1: limit (6)"),
+            ({"cut": 5}, "cut is no line"),
+            ({"claims": {"40": "5"}}, "a key is no place"),
+            ({"banks": {"0": ["1", "order"]}}, "another length"),
+            ({"added": [["A", "B", "1", "x"]]}, "unknown bank"),
+            ({"new": 1}, "other keys"),
+            ([], "other keys"),
+            ({"losses": [[99, 1]]}, "bank is no place"),
+        ]:
+            with self.subTest(state=state):
+                states = [{"name": "s", "note": "", "state": state}]
+                document = json.dumps({"session": 1, "states": states, "atHand": {}}).encode()
+                self.refused_session(self.packed({**parts, "session.json": document}), 4, message)
+
+    def test_names_in_a_session_that_lead_elsewhere_are_passed_over(self):
+        odd = ["../evil.txt", "/tmp/desk-evil", "case/../../evil.txt", "case/more.txt"]
+        path = self.packed({**self.parts(), **{name: b"x" for name in odd}})
+        desk = self.desk([], "--session", path)
         self.assertEqual(desk.see("/state/0")["id"], 0)
         self.assertEqual([path for path in desk.place.rglob("*") if "evil" in path.name or path.name == "more.txt"], [])
         self.assertFalse(os.path.exists("/tmp/desk-evil"))
 
-    def test_a_state_is_taken_out_as_a_case_and_goes_on_from_there(self):
+    def taken_out(self) -> Tuple[pathlib.Path, Any]:
+        """A state of the twelve banks that is kept and taken out as a case: the folder of the case, and the state."""
         desk = self.desk(
             None, "--scenarios", SCENARIOS, "--unit", "1000", "--currency", "EUR", "--title", "Twelve banks"
         )
@@ -147,41 +170,40 @@ class Sessions(DeskCase):
         desk.post("/keep", state=at, name="Two fail", note="")
         with zipfile.ZipFile(io.BytesIO(desk.see(f"/take/{at}/case"))) as archive:
             archive.extractall(self.folder)
-        folder, view = self.folder / "case", desk.see(f"/state/{at}")
+        return self.folder / "case", desk.see(f"/state/{at}")
+
+    def test_a_state_is_taken_out_as_a_case_that_says_of_what_and_how_it_was_made(self):
+        folder, state = self.taken_out()
         document = json.loads((folder / "datapackage.json").read_text())
+        about = document["clearing"]
         self.assertEqual(
-            (document["title"], document["clearing"]["unit"], document["clearing"]["currency"]),
-            ("Twelve banks: Two fail", "1000", "EUR"),
+            (document["title"], about["unit"], about["currency"]), ("Twelve banks: Two fail", "1000", "EUR")
         )
         self.assertEqual(
-            document["clearing"]["from"]["hashes"],
+            about["from"]["hashes"],
             {
                 f"{what}.csv": f"sha256:{hashlib.sha256((TWELVE / f'{what}.csv').read_bytes()).hexdigest()}"
                 for what in ("banks", "debts")
             },
         )
-        self.assertIn(
-            "Birk to Calder, class 1: the debt is 11 in place of 1,000,000.", document["clearing"]["from"]["changes"]
-        )
-        self.assertEqual([row[1:] for row in standings("defaults", *files_of(folder))], self.held(view))
-        # It opens at a desk again, with what it is worth, and stands beside another case.
+        self.assertIn("Birk to Calder, class 1: the debt is 11 in place of 1,000,000.", about["from"]["changes"])
+        self.assertEqual([row[1:] for row in standings("defaults", *files_of(folder))], self.held(state))
+
+    def test_a_case_that_was_taken_out_opens_at_a_desk_and_stands_beside_another(self):
+        folder, state = self.taken_out()
         other = self.desk([folder], "--against", folder)
         network = other.see("/network")
+        title = "Twelve banks: Two fail"
         self.assertEqual(
-            (network["title"], network["unit"], network["others"][0]["title"]),
-            ("Twelve banks: Two fail", "1000", "Twelve banks: Two fail"),
+            (network["title"], network["unit"], network["others"][0]["title"]), (title, "1000", title)
         )
-        self.assertEqual(self.held(other.see("/other/1")), self.held(view))
+        self.assertEqual(self.held(other.see("/other/1")), self.held(state))
         self.assertEqual(other.see("/other/1/3")["account"], other.see("/bank/0/3")["account"])
-        # A case in another unit is not held against this one.
-        done = tool(
-            "clearing-desk",
-            *files_of(TWELVE),
-            "--against",
-            folder,
-            "--no-browser",
-            python=PYTHON,
-        )
+
+    def test_a_case_in_another_unit_is_not_held_against_this_one(self):
+        folder, _ = self.taken_out()
+        words = [*files_of(TWELVE), "--against", folder, "--no-browser"]
+        done = tool("clearing-desk", *words, python=PYTHON)
         self.assertEqual((done.returncode, done.stdout), (4, ""))
         self.assertIn("in another unit or currency", done.stderr)
 

@@ -1,14 +1,22 @@
 """What is taken away from the desk says what the state says: files, scenarios, the report and the evidence."""
 import hashlib
 import io
+import pathlib
 import subprocess
 import unittest
 import zipfile
+from typing import List, Tuple
 
 from common import ROOT, TWELVE, clearing, files_of
-from desk import SCENARIOS, DeskCase, standings
+from desk import SCENARIOS, DeskCase, Running, standings
 
 SCRIPT = "<script>alert(1)</script>"
+
+
+def sums_before() -> List[str]:
+    """What is said of the two files before any change."""
+    digest = lambda name: hashlib.sha256((TWELVE / name).read_bytes()).hexdigest()
+    return [f"Before the changes {name} has the SHA-256 {digest(name)}." for name in ("banks.csv", "debts.csv")]
 
 
 class TakenAway(DeskCase):
@@ -94,7 +102,7 @@ class TakenAway(DeskCase):
             disposition = desk.ask("GET", desk.at(f"/take/0/{what}"))[1]["Content-Disposition"]
             self.assertRegex(disposition, r'^attachment; filename="[a-z]+\.[a-z]+"$')
 
-    def checked(self, folder):
+    def checked(self, folder: pathlib.Path) -> str:
         """A folder of evidence holds by its own check, whose lines are given."""
         done = subprocess.run(
             [str(ROOT / "bin/clearing-evidence"), "check", str(folder)], capture_output=True, encoding="utf-8"
@@ -102,59 +110,57 @@ class TakenAway(DeskCase):
         self.assertEqual(done.returncode, 0, done.stdout + done.stderr)
         return done.stdout
 
-    def test_the_report_and_the_evidence_say_what_was_changed(self):
+    def changed_in_each_way(self) -> Tuple[Running, int, List[str]]:
+        """A desk, a state in which each kind of change was made, and what must be said of each."""
         desk = self.desk(None, "--scenarios", SCENARIOS)
-        sums = [
-            f"Before the changes {what}.csv has the SHA-256"
-            f" {hashlib.sha256((TWELVE / f'{what}.csv').read_bytes()).hexdigest()}."
-            for what in ("banks", "debts")
-        ]
         names = desk.see("/network")["names"]
         debts = [line.split(",") for line in (TWELVE / "debts.csv").read_text().splitlines()[1:]]
         cash = int((TWELVE / "banks.csv").read_text().splitlines()[1].split(",")[1])
-        changes = [
-            ({"set": "scenario", "value": 3}, ["The scenario “"]),
-            ({"set": "cut", "value": "950"}, ["All cash is cut by 950 per mille."]),
-            ({"set": "keep", "value": "640"}, ["A bank in default keeps 640 per mille of its estate."]),
+        of = lambda debt: f"{debts[debt][0]} to {debts[debt][1]}, class {debts[debt][2]}: the debt"
+        at, told = 0, []
+        for said, change in [
+            ("The scenario “", {"set": "scenario", "value": 3}),
+            ("All cash is cut by 950 per mille.", {"set": "cut", "value": "950"}),
+            ("A bank in default keeps 640 per mille of its estate.", {"set": "keep", "value": "640"}),
             (
+                f"{names[0]}: cash 1,234,567 in place of {cash:,}.",
                 {"set": "bank", "bank": 0, "field": "cash", "value": "1234567"},
-                [f"{names[0]}: cash 1,234,567 in place of {cash:,}."],
             ),
-            ({"set": "bank", "bank": 0, "field": "rule", "value": "equal"}, [f"{names[0]}: rule equal in place of "]),
+            (f"{names[0]}: rule equal in place of ", {"set": "bank", "bank": 0, "field": "rule", "value": "equal"}),
             (
+                f"{names[1]}: owed outside 5,000 in place of 0.",
                 {"set": "bank", "bank": 1, "field": "outside", "value": "5000"},
-                [f"{names[1]}: owed outside 5,000 in place of 0."],
             ),
+            (f"{of(0)} is 12,345 in place of {int(debts[0][3]):,}.", {"set": "claim", "debt": 0, "value": "12345"}),
+            (f"{of(5)} of {int(debts[5][3]):,} is struck.", {"set": "strike", "debt": 5}),
             (
-                {"set": "claim", "debt": 0, "value": "12345"},
-                [
-                    f"{debts[0][0]} to {debts[0][1]}, class {debts[0][2]}: the debt is 12,345 in place of"
-                    f" {int(debts[0][3]):,}."
-                ],
-            ),
-            (
-                {"set": "strike", "debt": 5},
-                [f"{debts[5][0]} to {debts[5][1]}, class {debts[5][2]}: the debt of {int(debts[5][3]):,} is struck."],
-            ),
-            (
+                "Kemi to Isar, class 9: a debt of 999 is added.",
                 {"set": "add", "debtor": "Kemi", "creditor": "Isar", "class": "9", "claim": "999"},
-                ["Kemi to Isar, class 9: a debt of 999 is added."],
             ),
-        ]
-        at = 0
-        for change, _ in changes:
+        ]:
             at = desk.change(at, **change)["id"]
+            told.append(said)
+        return desk, at, told
+
+    def test_the_report_says_what_was_changed_and_of_which_files(self):
+        desk, at, told = self.changed_in_each_way()
         page = desk.see(f"/take/{at}/report").decode()
         head = page.partition('<div id="changed">')[2].partition("</div>")[0]
+        for words in [*told, *sums_before()]:
+            self.assertIn(words, head)
+        self.assertNotIn("No scenario was given", page)
+
+    def test_the_evidence_says_what_was_changed_and_of_which_files(self):
+        desk, at, told = self.changed_in_each_way()
         with zipfile.ZipFile(io.BytesIO(desk.see(f"/take/{at}/evidence"))) as archive:
             archive.extractall(self.folder)
         text = (self.folder / "evidence/inputs/changes.txt").read_text(encoding="utf-8")
-        for words in [*(words for _, said in changes for words in said), *sums]:
-            self.assertIn(words, head)
+        for words in [*told, *sums_before()]:
             self.assertIn(words, text)
-        self.assertNotIn("No scenario was given", page)
         self.assertIn("inputs/changes.txt", self.checked(self.folder / "evidence").partition("not checked: ")[2])
-        # As it is there is nothing to say.
+
+    def test_of_the_case_as_it_is_no_change_is_told(self):
+        desk = self.desk(None, "--scenarios", SCENARIOS)
         self.assertNotIn('id="changed"', desk.see("/take/0/report").decode())
         with zipfile.ZipFile(io.BytesIO(desk.see("/take/0/evidence"))) as archive:
             self.assertNotIn("evidence/inputs/changes.txt", archive.namelist())

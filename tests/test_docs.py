@@ -15,6 +15,7 @@ import subprocess
 import sys
 import tempfile
 import unittest
+from typing import Any
 
 from common import PROGRAM, ROOT, Case
 
@@ -30,7 +31,7 @@ BLOCK = re.compile(r"(?<=^```console\n).*?(?=^```$)", re.MULTILINE | re.DOTALL)
 HEAD = 'head() { command head "$@"; local status=$?; cat >/dev/null; return $status; }'
 
 
-def output_of(command, folder):
+def output_of(command: str, folder: pathlib.Path) -> Any:
     run = ["bash", "-c", f"{HEAD}\n{command}"]
     environment = {**os.environ, "LC_ALL": "C.UTF-8", "PYTHONDONTWRITEBYTECODE": "1"}
     return subprocess.run(
@@ -44,7 +45,7 @@ def output_of(command, folder):
     ).stdout
 
 
-def block_run(block, folder):
+def block_run(block: str, folder: pathlib.Path) -> str:
     commands = [line for line in block.splitlines() if line.startswith("$ ")]
     parts = []
     for command in commands:
@@ -53,7 +54,7 @@ def block_run(block, folder):
     return "".join(parts)
 
 
-def page_run(text):
+def page_run(text: str) -> str:
     """The text of a page, with what its commands print now."""
     with tempfile.TemporaryDirectory() as name:
         folder = pathlib.Path(name)
@@ -127,7 +128,7 @@ class Crates(unittest.TestCase):
         )
 
 
-def lost_files(text):
+def lost_files(text: str) -> Any:
     """The files of src/, specs/ and proofs/ that an item of a list names, and that none of the item's crates has."""
     lost = []
     for item in re.split(r"\n(?=\d+\. |- |\n)", text):

@@ -7,7 +7,7 @@ import subprocess
 import sys
 import time
 
-from common import ROOT, Case, loaded
+from common import ROOT, Case, Word, loaded
 
 edits = loaded(ROOT / "tools/dev/edits.py")
 
@@ -52,15 +52,15 @@ class Beside(Case):
         rt.write_text(RT.format(python=sys.executable, calls=self.calls))
         rt.chmod(0o755)
 
-    def edit(self, name, old, new, folder="edits"):
+    def edit(self, name: str, old: str, new: str, folder: str = "edits") -> None:
         (self.root / "crates/low" / folder / f"{name}.edit").write_text(f"file: src/lib.rt\nold: {old}\nnew: {new}\n")
 
-    def ran(self, *words):
+    def ran(self, *words: Word) -> "subprocess.CompletedProcess[str]":
         environment = {**os.environ, "PATH": f"{self.folder / 'commands'}:{os.environ['PATH']}"}
         command = [sys.executable, ROOT / "tools/dev/edits.py", *words]
         return subprocess.run(command, cwd=self.root, env=environment, capture_output=True, encoding="utf-8")
 
-    def checks(self):
+    def checks(self) -> int:
         return len(self.calls.read_text().splitlines())
 
     def test_all_of_a_crate_are_tried_at_once(self):

@@ -1,5 +1,6 @@
 """Folders of evidence: made, checked, and altered."""
 import os
+import pathlib
 import re
 import shlex
 import shutil
@@ -8,198 +9,44 @@ import subprocess
 import sys
 import time
 
-from common import HUB, PROGRAM, ROOT, clearing, files_of, needs
+from common import HUB, PROGRAM, ROOT, files_of, needs
 from evidences import SCENARIOS, SCRIPT, EvidenceCase, evidence
 
 from clearing_tools.evidence.layout import OLDER_README
 
-TWELVE = ROOT / "examples/twelve-banks"
+# The first of the three scenarios, half of all cash.
+ONE_SCENARIO = SCENARIOS.split('[[scenario]]\nname = " South')[0]
+# A file, a text in it and what is put there, the status of a check then, and what it tells.
+ALTERATIONS = (
+    ("scenario-1/banks.csv", ",webster", ",order", 5, "scenario 1: banks differ"),
+    (
+        "scenario-1/journal.csv",
+        "\nrounds",
+        "\n9,South,Hub,1,1\nrounds",
+        6,
+        "scenario 1: raise ",
+        "not so: each journal is lawful",
+    ),
+    ("as-is/journal.csv", "\n1,", "\n1,Nobody,", 6, "as it is: audit.py: journal row 1: fields (2)"),
+    ("scenario-1/payments.csv", ",paid\n", ",paid \n", 7, "scenario 1: lawful,", "payments differ: line 1"),
+    ("unit-less/defaults.csv", "sound", "contagion", 7, "defaults differ"),
+    ("rescue/rescue.csv", "short,1", "short,2", 7, "rescue of South with 20: not what the tables say"),
+    ("stress.csv", "scenario,half", "scenario,hall", 7, "stress.csv: differs"),
+    (
+        "as-is/journal.csv",
+        "rounds,",
+        "rounds,1",
+        8,
+        "commands run again: as-is/journal.csv differs",
+        "checked: each journal is lawful",
+    ),
+    ("commands.tsv", "\t0\t", "\t1\t", 3, "commands.tsv: not the commands"),
+    ("inputs/debts.csv", "debtor", "Debtor", 3, "inputs: debts row 0: header (1)"),
+)
 
-# Names that a file may have, and that other texts might take for something else.
-HOSTILE = ["total", "cash", "scenario", "bank", "a b", "it's", "back\\slash", "$HOME", "-x", "é é", "rounds", "#"]
 
-
-class Evidence(EvidenceCase):
-    def files(self, banks, debts):
-        return ["--banks", self.file("banks.csv", banks), "--debts", self.file("debts.csv", debts)]
-
-    def hostile_files(self):
-        """A ring of banks of such names, short of cash."""
-        banks = "name,cash,rule\n" + "".join(f"{name},{7 * place},webster\n" for place, name in enumerate(HOSTILE))
-        debts = "debtor,creditor,class,claim\n" + "".join(
-            f"{name},{HOSTILE[(place + 1) % len(HOSTILE)]},1,{50 - place}\n" for place, name in enumerate(HOSTILE)
-        )
-        scenarios = '[[scenario]]\nname = "total"\ncut = 100\n' + "".join(
-            f"[[scenario.loss]]\nbank = '''{name}'''\namount = {place}\n" for place, name in enumerate(HOSTILE)
-        )
-        return self.files(banks, debts), self.file("s.toml", scenarios)
-
-    # The banks that a scenario leaves.
-
-    def test_without_what_it_needs_it_says_so_in_a_line(self):
-        place = self.folder / "bin"
-        place.mkdir()
-        shutil.copy(SCRIPT, place)
-        done = subprocess.run(
-            [str(place / "clearing-evidence"), "check", str(self.folder)], capture_output=True, encoding="utf-8"
-        )
-        self.assertEqual((done.returncode, done.stdout), (2, ""))
-        self.assertRegex(done.stderr, r"\Aclearing-evidence: needs bin/clearing-evidence and python/src [^\n]*\n\Z")
-
-    def test_a_folder_that_was_made_before_the_commands_stood_in_bin_is_checked(self):
-        folder = self.folder / "evidence"
-        self.assertEqual(
-            evidence("make", folder, "--banks", HUB / "banks.csv", "--debts", HUB / "debts.csv").returncode, 0
-        )
-        for text, status in ((OLDER_README, 0), (OLDER_README.replace("audit.py", "other.py"), 3)):
-            (folder / "README.txt").write_text(text)
-            self.sums_anew(folder)
-            self.assertEqual(evidence("check", folder).returncode, status)
-
-    def test_a_text_of_what_was_changed_belongs_to_a_folder(self):
-        text = self.file("said.txt", "Hub: cash 5 in place of 4.\n")
-        folder = self.folder / "evidence"
-        words = files_of(HUB)
-        self.assertEqual(evidence("make", folder, *words, "--changes", text).returncode, 0)
-        self.assertEqual((folder / "inputs/changes.txt").read_bytes(), text.read_bytes())
-        done = evidence("check", folder)
-        self.assertEqual(done.returncode, 0, done.stdout)
-        self.assertIn(
-            b"not checked: that the inputs are true (inputs/banks.csv, inputs/changes.txt, inputs/debts.csv)",
-            done.stdout,
-        )
-        (folder / "inputs/changes.txt").write_text("Hub: cash 4 in place of 4.\n")
-        self.assertEqual(evidence("check", folder).returncode, 4)
-
-    def test_a_shock_leaves_what_stress_clears(self):
-        generated = [self.file("b.csv"), self.file("d.csv")]
-        self.made(
-            "clearing-gen-files",
-            "--seed",
-            3,
-            "--size",
-            200,
-            "--tries",
-            900,
-            "--banks",
-            generated[0],
-            "--debts",
-            generated[1],
-        )
-        wild = "".join(
-            f'[[scenario]]\nname = "{n}"\ncut = {37 * n}\n'
-            + "".join(f'[[scenario.loss]]\nbank = "N{(n * k) % 200}"\namount = {k * k}\n' for k in range(1, 9))
-            for n in range(1, 5)
-        )
-        hostile, hostile_scenarios = self.hostile_files()
-        for banks, debts, scenarios in [
-            (TWELVE / "banks.csv", TWELVE / "debts.csv", TWELVE / "scenarios.toml"),
-            (HUB / "banks.csv", HUB / "debts.csv", self.file("hub.toml", SCENARIOS)),
-            (*generated, self.file("wild.toml", wild)),
-            (hostile[1], hostile[3], hostile_scenarios),
-        ]:
-            words = ["--banks", banks, "--debts", debts, "--scenarios", scenarios]
-            blocks = self.printed("stress", *words).split("\n\n")
-            for number, block in enumerate(blocks, 1):
-                left = self.file("left.csv")
-                shocked = ["--banks", banks, "--scenarios", scenarios, "--scenario", number]
-                self.assertEqual(self.made("clearing-shock", *shocked, "--output", left), "")
-                self.assertEqual(self.made("clearing-shock", *shocked), left.read_text())
-                files = ["--banks", left, "--debts", debts]
-                made = self.printed("clear", *files) + self.printed("defaults", *files)
-                self.assertEqual(block.split("\n", 1)[1].rstrip("\n"), made.rstrip("\n"))
-                # And it is in the form in which it is printed.
-                self.assertEqual(self.printed("check", *files).split("\n\n")[1] + "\n", left.read_text())
-
-    def test_a_byte_order_mark_above_scenarios_is_dropped(self):
-        banks, debts = HUB / "banks.csv", HUB / "debts.csv"
-        plain, marked = self.file("s.toml", SCENARIOS), self.file("marked.toml", b"\xef\xbb\xbf" + SCENARIOS.encode())
-        words = ["--banks", banks, "--debts", debts, "--scenarios"]
-        self.assertEqual(self.printed("stress", *words, plain), self.printed("stress", *words, marked))
-        left = [
-            self.made("clearing-shock", "--banks", banks, "--scenarios", name, "--scenario", 2)
-            for name in (plain, marked)
-        ]
-        self.assertEqual(left[0], left[1])
-        folder = self.folder / "evidence"
-        done = evidence("make", folder, *words, marked, "--bank", "South")
-        self.assertEqual((done.returncode, done.stderr), (0, b""))
-        self.assertEqual((folder / "inputs/scenarios.toml").read_bytes(), marked.read_bytes())
-        done = evidence("check", folder)
-        self.assertEqual((done.returncode, done.stderr), (0, b""), done.stdout)
-        # One alone, and at the start alone, as the program has it.
-        for text in (b"\xef\xbb\xbf" + marked.read_bytes(), SCENARIOS.encode() + b"\xef\xbb\xbf"):
-            name = self.file("more.toml", text)
-            done = clearing("stress", *words, name)
-            self.assertEqual((done.returncode, done.stderr), (4, b"clearing: scenarios row 0: toml (16)\n"))
-            self.refused(
-                "clearing-shock",
-                4,
-                "scenarios row 0: toml (16)",
-                "--banks",
-                banks,
-                "--scenarios",
-                name,
-                "--scenario",
-                1,
-            )
-
-    def test_a_scenario_that_is_refused_is_refused_alike(self):
-        head = '[[scenario]]\nname = "a"\n'
-        for text in [
-            "x",
-            "scenario = 1",
-            "y = 1\n[[scenario]]\nname = 'a'",
-            "[[scenario]]\ncut = 1",
-            head + "cut = 1001",
-            head + "cut = -1",
-            head + "cut = 1.0",
-            head + "cut = true",
-            head + "cut = 9223372036854775808",
-            head + "[[scenario]]\nname = 'b,'",
-            head + "[[scenario.loss]]\nbank = 'Nord'\namount = 1",
-            head + "[[scenario.loss]]\nbank = 'South'",
-            head + "[[scenario.loss]]\nbank = 'South'\namount = 1000000000001",
-            head + "loss = 3",
-            head + "other = 3",
-            head + "[[scenario.loss]]\nbank = 'South'\namount = 1\n" * 2,
-            head * 101,
-            b"\xff",
-            head + "cut = 1\n cut = 2",
-        ]:
-            scenarios = self.file("s.toml", text)
-            done = clearing(
-                "stress", "--banks", HUB / "banks.csv", "--debts", HUB / "debts.csv", "--scenarios", scenarios
-            )
-            self.assertEqual(done.returncode, 4, text)
-            message = done.stderr.decode().removeprefix("clearing: ")
-            self.refused(
-                "clearing-shock",
-                4,
-                "clearing-shock: " + message,
-                "--banks",
-                HUB / "banks.csv",
-                "--scenarios",
-                scenarios,
-                "--scenario",
-                1,
-            )
-
-    def test_a_shock_keeps_its_inputs(self):
-        banks, scenarios = self.file("b.csv", (HUB / "banks.csv").read_bytes()), self.file("s.toml", SCENARIOS)
-        link = self.folder / "link.csv"
-        link.symlink_to(banks)
-        words = ["--banks", banks, "--scenarios", scenarios]
-        for output in (banks, scenarios, link):
-            self.refused("clearing-shock", 2, "would be written over", *words, "--scenario", 1, "--output", output)
-        self.refused("clearing-shock", 2, "none of the number 4", *words, "--scenario", 4)
-        self.refused("clearing-shock", 3, "cannot read", *words[:3], self.folder / "none", "--scenario", 1)
-        self.refused(
-            "clearing-shock", 5, "cannot write", *words, "--scenario", 1, "--output", self.folder / "none" / "x"
-        )
-        self.assertEqual((banks.read_bytes(), scenarios.read_text()), ((HUB / "banks.csv").read_bytes(), SCENARIOS))
-
-    # Making and checking.
+class Made(EvidenceCase):
+    """What is in a folder of evidence, and that a check finds it right."""
 
     def test_what_is_made_is_checked(self):
         folder = self.hub()
@@ -265,83 +112,130 @@ class Evidence(EvidenceCase):
         self.assertEqual(done.returncode, 0, done.stdout)
         self.assertEqual(done.stdout.count(b"; payments same; defaults same\n"), 3)
 
-    # What is altered.
+    def test_a_text_of_what_was_changed_belongs_to_a_folder(self):
+        text = self.file("said.txt", "Hub: cash 5 in place of 4.\n")
+        folder = self.folder / "evidence"
+        words = files_of(HUB)
+        self.assertEqual(evidence("make", folder, *words, "--changes", text).returncode, 0)
+        self.assertEqual((folder / "inputs/changes.txt").read_bytes(), text.read_bytes())
+        done = evidence("check", folder)
+        self.assertEqual(done.returncode, 0, done.stdout)
+        self.assertIn(
+            b"not checked: that the inputs are true (inputs/banks.csv, inputs/changes.txt, inputs/debts.csv)",
+            done.stdout,
+        )
+        (folder / "inputs/changes.txt").write_text("Hub: cash 4 in place of 4.\n")
+        self.assertEqual(evidence("check", folder).returncode, 4)
 
-    def test_each_kind_of_alteration_has_its_status(self):
-        folder = self.hub(SCENARIOS.split('[[scenario]]\nname = " South')[0])
-        kept = {path: path.read_bytes() for path in folder.rglob("*") if path.is_file()}
-
-        def altered(name, old, new, count=1):
-            path = folder / name
-            text = path.read_bytes().decode()
-            self.assertIn(old, text)
-            path.write_bytes(text.replace(old, new, count).encode())
-
-        def checked(status, *lines):
-            done = evidence("check", folder)
-            self.assertEqual(done.returncode, status, done.stdout.decode() + done.stderr.decode())
-            for line in lines:
-                self.assertIn(line, done.stdout.decode() + done.stderr.decode())
-            for path in folder.rglob("*"):
-                if path.is_file() and path not in kept:
-                    path.unlink()
-            for path, content in kept.items():
-                path.write_bytes(content)
-
-        # Every file, where the checksums stay: a byte more at its end.
-        names = [str(path.relative_to(folder)) for path in kept if path.name != "SHA256SUMS"]
-        for name in names:
-            (folder / name).write_bytes(kept[folder / name] + b"\n")
-        checked(3, f"checksums: 0 of {len(names)}", *(f"checksums: {name} differs\n" for name in names))
-        altered("as-is/journal.csv", "rounds,", "rounds,99")
-        checked(4, f"checksums: {len(names) - 1} of {len(names)}", "not so: the files are those that SHA256SUMS lists")
-        (folder / "more.txt").write_text("x")
-        checked(3, "checksums: more.txt is not listed", "more.txt: none of these commands makes it here")
-        # Where the checksums are made anew, the rest is found by what the files say.
-        for name, old, new, status, *said in (
-            ("scenario-1/banks.csv", ",webster", ",order", 5, "scenario 1: banks differ"),
-            (
-                "scenario-1/journal.csv",
-                "\nrounds",
-                "\n9,South,Hub,1,1\nrounds",
-                6,
-                "scenario 1: raise ",
-                "not so: each journal is lawful",
-            ),
-            ("as-is/journal.csv", "\n1,", "\n1,Nobody,", 6, "as it is: audit.py: journal row 1: fields (2)"),
-            ("scenario-1/payments.csv", ",paid\n", ",paid \n", 7, "scenario 1: lawful,", "payments differ: line 1"),
-            ("unit-less/defaults.csv", "sound", "contagion", 7, "defaults differ"),
-            ("rescue/rescue.csv", "short,1", "short,2", 7, "rescue of South with 20: not what the tables say"),
-            ("stress.csv", "scenario,half", "scenario,hall", 7, "stress.csv: differs"),
-            (
-                "as-is/journal.csv",
-                "rounds,",
-                "rounds,1",
-                8,
-                "commands run again: as-is/journal.csv differs",
-                "checked: each journal is lawful",
-            ),
-            ("commands.tsv", "\t0\t", "\t1\t", 3, "commands.tsv: not the commands"),
-            ("inputs/debts.csv", "debtor", "Debtor", 3, "inputs: debts row 0: header (1)"),
-        ):
-            altered(name, old, new)
+    def test_a_folder_that_was_made_before_the_commands_stood_in_bin_is_checked(self):
+        folder = self.folder / "evidence"
+        self.assertEqual(
+            evidence("make", folder, "--banks", HUB / "banks.csv", "--debts", HUB / "debts.csv").returncode, 0
+        )
+        for text, status in ((OLDER_README, 0), (OLDER_README.replace("audit.py", "other.py"), 3)):
+            (folder / "README.txt").write_text(text)
             self.sums_anew(folder)
-            checked(status, *said)
+            self.assertEqual(evidence("check", folder).returncode, status)
+
+    def test_without_what_it_needs_it_says_so_in_a_line(self):
+        place = self.folder / "bin"
+        place.mkdir()
+        shutil.copy(SCRIPT, place)
+        done = subprocess.run(
+            [str(place / "clearing-evidence"), "check", str(self.folder)], capture_output=True, encoding="utf-8"
+        )
+        self.assertEqual((done.returncode, done.stdout), (2, ""))
+        self.assertRegex(done.stderr, r"\Aclearing-evidence: needs bin/clearing-evidence and python/src [^\n]*\n\Z")
+
+    def test_the_guide_makes_each_folder_once(self):
+        text = (ROOT / "docs/GUIDE.md").read_text(encoding="utf-8")
+        commands = (
+            "".join(re.findall(r"^```\w*\n(.*?)^```$", text, re.MULTILINE | re.DOTALL)).replace("\\\n", " ").split("\n")
+        )
+        made = [
+            name
+            for line in commands
+            for name in re.findall(r"(?:clearing-report .*--keep|clearing-evidence make) (\S+)", line)
+        ]
+        self.assertGreater(len(made), 1)
+        self.assertEqual(sorted(made), sorted(set(made)))
+
+
+class Altered(EvidenceCase):
+    """What a check says of a folder in which something was altered."""
+
+    def altered(self, path: pathlib.Path, old: str, new: str) -> None:
+        """Puts one text in place of another, where it stands first in a file."""
+        text = path.read_bytes().decode()
+        self.assertIn(old, text)
+        path.write_bytes(text.replace(old, new, 1).encode())
+
+    def checked(self, folder: pathlib.Path, status: int, *told: str) -> None:
+        """A folder is checked with a status, and this is told of it."""
+        done = evidence("check", folder)
+        text = (done.stdout + done.stderr).decode()
+        self.assertEqual(done.returncode, status, text)
+        for line in told:
+            self.assertIn(line, text)
+
+    def test_each_file_that_was_altered_differs_from_its_checksum(self):
+        folder = self.hub(ONE_SCENARIO)
+        files = [path for path in folder.rglob("*") if path.is_file() and path.name != "SHA256SUMS"]
+        for path in files:
+            path.write_bytes(path.read_bytes() + b"\n")
+        names = [path.relative_to(folder) for path in files]
+        told = [f"checksums: {name} differs\n" for name in names]
+        self.checked(folder, 3, f"checksums: 0 of {len(names)}", *told)
+
+    def test_one_file_that_was_altered_leaves_the_others_as_listed(self):
+        folder = self.hub(ONE_SCENARIO)
+        count = sum(path.is_file() for path in folder.rglob("*")) - 1
+        self.altered(folder / "as-is/journal.csv", "rounds,", "rounds,99")
+        told = [f"checksums: {count - 1} of {count}", "not so: the files are those that SHA256SUMS lists"]
+        self.checked(folder, 4, *told)
+
+    def test_a_file_more_is_neither_listed_nor_made(self):
+        folder = self.hub(ONE_SCENARIO)
+        (folder / "more.txt").write_text("x")
+        told = ["checksums: more.txt is not listed", "more.txt: none of these commands makes it here"]
+        self.checked(folder, 3, *told)
+
+    def test_what_was_altered_with_its_checksum_is_found_by_what_the_files_say(self):
+        folder = self.hub(ONE_SCENARIO)
+        for name, old, new, status, *told in ALTERATIONS:
+            with self.subTest(name=name, new=new):
+                kept = (folder / name).read_bytes()
+                self.altered(folder / name, old, new)
+                self.sums_anew(folder)
+                self.checked(folder, status, *told)
+                (folder / name).write_bytes(kept)
+        self.sums_anew(folder)
+        self.checked(folder, 0)
+
+    def test_a_file_that_is_gone_is_named(self):
+        folder = self.hub(ONE_SCENARIO)
         (folder / "scenario-1/payments.csv").unlink()
-        checked(3, "checksums: scenario-1/payments.csv is not there", "scenario-1/payments.csv is not there")
-        # What is no plain file is none: a link to the same bytes, and a pipe, which is not waited for.
-        for put in (lambda path: path.symlink_to(HUB / "banks.csv"), os.mkfifo):
-            path = folder / "as-is/journal.csv"
+        told = ["checksums: scenario-1/payments.csv is not there", "scenario-1/payments.csv is not there"]
+        self.checked(folder, 3, *told)
+
+    def test_what_is_no_plain_file_is_none(self):
+        """A link to the same bytes, and a pipe, which is not waited for."""
+        folder = self.hub(ONE_SCENARIO)
+        path = folder / "as-is/journal.csv"
+        kept = path.read_bytes()
+        for put in (lambda: path.symlink_to(HUB / "banks.csv"), lambda: os.mkfifo(path)):
             path.unlink()
-            put(path)
+            put()
             done = evidence("check", folder, timeout=60)
-            path.unlink()
-            path.write_bytes(kept[path])
             self.assertEqual(done.returncode, 3)
             self.assertIn(b"as-is/journal.csv is not there\n", done.stderr)
-        self.assertEqual(evidence("check", folder).returncode, 0)
+        path.unlink()
+        path.write_bytes(kept)
+        self.checked(folder, 0)
 
-    # Builds.
+
+class Builds(EvidenceCase):
+    """Which program and which commit made a folder."""
 
     def test_two_builds_are_compared(self):
         """With a build that takes no time in place of the real one."""
@@ -382,47 +276,6 @@ class Evidence(EvidenceCase):
             self.assertEqual(subprocess.run([str(script), given, str(program)], capture_output=True).returncode, status)
         for words in (["no-such-commit"], ["-x"], ["a", "b", "c"], [sums[0], str(self.folder / "none")]):
             self.assertEqual(subprocess.run([str(script), *words], env=environment, capture_output=True).returncode, 2)
-
-    # What goes wrong while a folder is made.
-
-    def nothing_is_left(self, folder, *others):
-        self.assertEqual(sorted(path.name for path in folder.parent.iterdir()), sorted(others))
-
-    def test_a_folder_is_made_whole_or_not_at_all(self):
-        place = self.folder / "place"
-        place.mkdir()
-        words = ["make", place / "evidence", "--banks", HUB / "banks.csv", "--debts", HUB / "debts.csv"]
-        # A program that fails, and one that lies, each on one task alone.
-        for task, lie, status in [
-            ("defaults", "exit 6", 1),
-            ("stress", "echo x; exit 0", 1),
-            ("rescue", "printf 'rescue,South,1\\nshort,1\\n\\n'", 1),
-        ]:
-            lines = f'if [ "$1" = {task} ]; then {lie}; else exec {shlex.quote(PROGRAM)} "$@"; fi\n'
-            program = self.executable("program", lines)
-            more = ["--scenarios", self.file("s.toml", SCENARIOS), "--bank", "South"]
-            done = evidence(*words, *more, program=str(program))
-            self.assertEqual((done.returncode, done.stdout), (status, b""), done.stderr)
-            self.assertTrue(done.stderr.startswith(b"clearing-evidence: "), done.stderr)
-            self.nothing_is_left(words[1])
-        for more, status, message in [
-            (["--bank", "Nobody"], 4, b"words row 0: unknown bank (8)"),
-            (["--scenarios", self.file("x.toml", "x")], 4, b"scenarios row 0: toml (16)"),
-            (["--scenarios", self.folder / "none.toml"], 3, b"cannot read"),
-            (["--banks", self.file("b.csv", "name\n")], 4, b"banks row 0: header (1)"),
-            (["--seed", "1"], 2, b"unrecognized"),
-        ]:
-            done = evidence(*words, *more)
-            self.assertEqual((done.returncode, done.stdout), (status, b""), done.stderr)
-            self.assertIn(message, done.stderr)
-            self.nothing_is_left(words[1])
-        (place / "evidence").mkdir()
-        self.assertEqual(evidence(*words).returncode, 2)
-        self.nothing_is_left(words[1], "evidence")
-        self.assertEqual(evidence("make", self.folder / "none/evidence", *words[2:]).returncode, 5)
-        self.assertEqual(evidence("check", self.folder / "none").returncode, 3)
-        self.assertEqual(evidence("check", place).returncode, 3)
-        self.assertEqual(evidence().returncode, 2)
 
     @needs("git")
     def test_changes_are_told_where_they_are_of_the_repository(self):
@@ -468,18 +321,48 @@ class Evidence(EvidenceCase):
         self.assertEqual((folder / "versions.txt").read_text().split("\n")[0], f"repository {commit}")
         self.assertIn(f">{commit}<", page.read_text(encoding="utf-8"))
 
-    def test_the_guide_makes_each_folder_once(self):
-        text = (ROOT / "docs/GUIDE.md").read_text(encoding="utf-8")
-        commands = (
-            "".join(re.findall(r"^```\w*\n(.*?)^```$", text, re.MULTILINE | re.DOTALL)).replace("\\\n", " ").split("\n")
-        )
-        made = [
-            name
-            for line in commands
-            for name in re.findall(r"(?:clearing-report .*--keep|clearing-evidence make) (\S+)", line)
-        ]
-        self.assertGreater(len(made), 1)
-        self.assertEqual(sorted(made), sorted(set(made)))
+
+class Whole(EvidenceCase):
+    """A folder is made whole or not at all."""
+
+    def nothing_is_left(self, folder: pathlib.Path, *others: str) -> None:
+        self.assertEqual(sorted(path.name for path in folder.parent.iterdir()), sorted(others))
+
+    def test_a_folder_is_made_whole_or_not_at_all(self):
+        place = self.folder / "place"
+        place.mkdir()
+        words = ["make", place / "evidence", "--banks", HUB / "banks.csv", "--debts", HUB / "debts.csv"]
+        # A program that fails, and one that lies, each on one task alone.
+        for task, lie, status in [
+            ("defaults", "exit 6", 1),
+            ("stress", "echo x; exit 0", 1),
+            ("rescue", "printf 'rescue,South,1\\nshort,1\\n\\n'", 1),
+        ]:
+            lines = f'if [ "$1" = {task} ]; then {lie}; else exec {shlex.quote(PROGRAM)} "$@"; fi\n'
+            program = self.executable("program", lines)
+            more = ["--scenarios", self.file("s.toml", SCENARIOS), "--bank", "South"]
+            done = evidence(*words, *more, program=str(program))
+            self.assertEqual((done.returncode, done.stdout), (status, b""), done.stderr)
+            self.assertTrue(done.stderr.startswith(b"clearing-evidence: "), done.stderr)
+            self.nothing_is_left(words[1])
+        for more, status, message in [
+            (["--bank", "Nobody"], 4, b"words row 0: unknown bank (8)"),
+            (["--scenarios", self.file("x.toml", "x")], 4, b"scenarios row 0: toml (16)"),
+            (["--scenarios", self.folder / "none.toml"], 3, b"cannot read"),
+            (["--banks", self.file("b.csv", "name\n")], 4, b"banks row 0: header (1)"),
+            (["--seed", "1"], 2, b"unrecognized"),
+        ]:
+            done = evidence(*words, *more)
+            self.assertEqual((done.returncode, done.stdout), (status, b""), done.stderr)
+            self.assertIn(message, done.stderr)
+            self.nothing_is_left(words[1])
+        (place / "evidence").mkdir()
+        self.assertEqual(evidence(*words).returncode, 2)
+        self.nothing_is_left(words[1], "evidence")
+        self.assertEqual(evidence("make", self.folder / "none/evidence", *words[2:]).returncode, 5)
+        self.assertEqual(evidence("check", self.folder / "none").returncode, 3)
+        self.assertEqual(evidence("check", place).returncode, 3)
+        self.assertEqual(evidence().returncode, 2)
 
     def test_an_interrupt_ends_at_once_and_leaves_nothing(self):
         place = self.folder / "place"
@@ -504,9 +387,7 @@ class Evidence(EvidenceCase):
             )
             self.addCleanup(running.stdout.close)
             self.addCleanup(running.stderr.close)
-            deadline = time.monotonic() + 30
-            while not list(place.glob(".part-*/inputs/debts.csv")) and time.monotonic() < deadline:
-                time.sleep(0.02)
+            self.until(lambda: list(place.glob(".part-*/inputs/debts.csv")))
             time.sleep(0.3)
             begun = time.monotonic()
             running.send_signal(number)

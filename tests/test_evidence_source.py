@@ -2,23 +2,21 @@
 import itertools
 import json
 import os
+import pathlib
 import shutil
+from typing import Any
 
-import test_evidence
-from test_evidence import evidence
+from evidences import EvidenceCase, evidence
 
 TOTALS = "bank,assets,liabilities,cash\nA,100,60,20\nB,50,90,10\nC,70,40,30\nD,30,60,5\n"
 LIST = "lender,borrower,amount,currency\nB,A,10,EUR\nA,B,4,USD\nB,A,10,EUR\n"
 
 
-class Source(test_evidence.Evidence):
-    # The tests of evidence itself run once.
-    locals().update({name: None for name in vars(test_evidence.Evidence) if name.startswith("test_")})
-
-    def make(self, command):
+class Source(EvidenceCase):
+    def make(self, command: str) -> Any:
         return evidence("make", self.folder / "evidence", "--source", command, cwd=self.folder)
 
-    def given(self):
+    def given(self) -> str:
         self.file("list.csv", LIST)
         self.file("table.csv", "bank,cash\nA,3\nB,5\n")
         self.file("rates.csv", "currency,rate\nEUR,1\nUSD,0.5\n")
@@ -73,7 +71,7 @@ class Source(test_evidence.Evidence):
 
     CLAIMS = ',"A, Inc.",B,cash,full,country\n"A, Inc.",0,6.5,3,"Alpha, Inc.",DE\nB,2,0,4,,FR\n'
 
-    def case(self, *words):
+    def case(self, *words: Any) -> pathlib.Path:
         """A case of a matrix, with names that need a code."""
         self.file("m.csv", self.CLAIMS)
         said = [

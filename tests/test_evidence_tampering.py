@@ -3,12 +3,14 @@ at hand, or the check names what was altered as not checked."""
 import concurrent.futures
 import functools
 import os
+import pathlib
 import re
 import shlex
 import shutil
 import socket
 import unittest
 import unittest.mock
+from typing import Any, Callable, Optional, Union
 
 from common import PROGRAM, ROOT
 from clearing_tools.evidence.checking import FIRST, Checking
@@ -20,21 +22,24 @@ name = "half"
 cut = 500
 """
 
+Work = Callable[[pathlib.Path], Any]
+"""Something that is done to a folder of evidence."""
 
-def put(name, content):
+
+def put(name: str, content: Union[str, bytes]) -> Work:
     """Puts a file, with the folder that it is in."""
 
-    def work(folder):
+    def work(folder: pathlib.Path) -> None:
         (folder / name).parent.mkdir(exist_ok=True)
         (folder / name).write_bytes(content.encode() if isinstance(content, str) else content)
 
     return work
 
 
-def alter(name, old, new, count=1):
+def alter(name: str, old: str, new: str, count: int = 1) -> Work:
     """Writes other text in a file."""
 
-    def work(folder):
+    def work(folder: pathlib.Path) -> None:
         text = (folder / name).read_bytes()
         assert old.encode() in text, (name, old, text)
         (folder / name).write_bytes(text.replace(old.encode(), new.encode(), count))
@@ -42,12 +47,12 @@ def alter(name, old, new, count=1):
     return work
 
 
-def copy(name, to):
+def copy(name: str, to: str) -> Work:
     return lambda folder: put(to, (folder / name).read_bytes())(folder)
 
 
-def remove(*names):
-    def work(folder):
+def remove(*names: str) -> Work:
+    def work(folder: pathlib.Path) -> None:
         for name in names:
             path = folder / name
             shutil.rmtree(path) if path.is_dir() else path.unlink()
@@ -55,14 +60,14 @@ def remove(*names):
     return work
 
 
-def both(*works):
+def both(*works: Work) -> Work:
     return lambda folder: [work(folder) for work in works]
 
 
-def without_lines(name, beginning):
+def without_lines(name: str, beginning: str) -> Work:
     """Leaves out the lines of a file with this beginning."""
 
-    def work(folder):
+    def work(folder: pathlib.Path) -> None:
         lines = (folder / name).read_text().splitlines(True)
         left = [line for line in lines if not re.match(beginning, line)]
         assert len(left) < len(lines)
@@ -71,20 +76,20 @@ def without_lines(name, beginning):
     return work
 
 
-def link(name, to):
-    def work(folder):
+def link(name: str, to: str) -> Work:
+    def work(folder: pathlib.Path) -> None:
         (folder / name).unlink(missing_ok=True)
         (folder / name).symlink_to(to)
 
     return work
 
 
-def a_link_of_a_folder(folder):
+def a_link_of_a_folder(folder: pathlib.Path) -> None:
     (folder / "as-is").rename(folder.parent / f"{folder.name}-as-is")
     (folder / "as-is").symlink_to(f"../{folder.name}-as-is")
 
 
-def a_socket(folder):
+def a_socket(folder: pathlib.Path) -> None:
     (folder / "stress.csv").unlink()
     here = os.getcwd()
     with socket.socket(socket.AF_UNIX) as made:
@@ -95,20 +100,20 @@ def a_socket(folder):
             os.chdir(here)
 
 
-def a_pipe(folder):
+def a_pipe(folder: pathlib.Path) -> None:
     (folder / "stress.csv").unlink()
     os.mkfifo(folder / "stress.csv")
 
 
-def sparse(name, size):
-    def work(folder):
+def sparse(name: str, size: int) -> Work:
+    def work(folder: pathlib.Path) -> None:
         with open(folder / name, "r+b" if (folder / name).exists() else "wb") as file:
             file.truncate(size)
 
     return work
 
 
-def swap(folder):
+def swap(folder: pathlib.Path) -> None:
     """The payments of the scenario in the place of those as it is, and the other way round."""
     one, other = folder / "as-is/payments.csv", folder / "scenario-1/payments.csv"
     first = one.read_bytes()
@@ -116,10 +121,10 @@ def swap(folder):
     other.write_bytes(first)
 
 
-def a_sum(change):
+def a_sum(change: Any) -> Work:
     """Alters SHA256SUMS itself, once it is made anew."""
 
-    def work(folder):
+    def work(folder: pathlib.Path) -> None:
         work.later = lambda: (folder / "SHA256SUMS").write_bytes(change((folder / "SHA256SUMS").read_bytes()))
 
     return work
@@ -378,7 +383,7 @@ TABLE = [
 class Tampering(EvidenceCase):
     maxDiff = None
 
-    def tampered(self, kept, number, row):
+    def tampered(self, kept: pathlib.Path, number: int, row: Any) -> Optional[str]:
         """What is not as the row has it, or nothing."""
         about, work, status, line = row
         folder = self.folder / f"tampered-{number}"
@@ -437,7 +442,7 @@ class Tampering(EvidenceCase):
             self.copied(folder)
         self.assertIn(" bytes, and there is room for 4,500", str(caught.exception))
 
-    def copied(self, folder):
+    def copied(self, folder: pathlib.Path) -> Any:
         """A folder under check, of which a copy was made."""
         shutil.rmtree(self.folder / "copy", ignore_errors=True)
         (self.folder / "copy").mkdir()

@@ -1,16 +1,15 @@
 """Every task at the edges of what is accepted: long names, rows and columns, the greatest numbers, many rounds,
 raises, workers, scenarios and words, late rows, no debts. Each run ends with 0, and its text is that of
 tests/system/model.py, or known beforehand."""
+import pathlib
 import random
-import sys
 import unittest
+from typing import List, Tuple
 from unittest import mock
 
-from common import ROOT, Case
-
-sys.path.insert(0, str(ROOT / "tests/system"))
-import model  # noqa: E402
-from networks import RULES, generated, judge_compression, judge_journal, scenarios_toml  # noqa: E402
+from common import Word
+from compared import Compared, model
+from networks import RULES, generated, judge_compression, judge_journal, scenarios_toml
 
 Bank, Debt, Net, Scenario = model.Bank, model.Debt, model.Net, model.Scenario
 CASH, OUTSIDE, CLAIM = 10**12, 10**11, 10**6
@@ -25,8 +24,24 @@ PLANS = [
     ["--workers", "64"],
 ]
 
+# Options of a run with numbers as long as they may be.
+LONG_PLAN = ["--workers", f"{64:020}", "--sweeps", f"{1000:020}"]
+KEEP = ["--keep", f"{1000:020}"]
+# Bytes that a file with late rows has, or as few as it can have.
+SIZES = (0, 4_000, LARGEST)
+# Each a name, a cut and losses: one of them is as large as it may be, or is one more than in another.
+ODD_SCENARIOS = [
+    Scenario("n" * 64, 0, []),
+    Scenario("😀" * 16, 1, []),
+    Scenario("cut", 1000, []),
+    Scenario("loss", 5, [(0, CASH)]),
+    Scenario("second", 5, [(0, 1), (1, 2)]),
+    Scenario("alone", 0, [(0, 1), (1, 2)]),
+    Scenario("eight", 0, [(i, 1) for i in range(8)]),
+]
 
-def wide_net():
+
+def wide_net() -> Net:
     """1,000 banks with names of 64 bytes that begin with a character of four. One owes all the others in each class,
     one is owed by all the others in two, and every seventh has the greatest cash and owes the most outside. Many
     default."""
@@ -53,13 +68,13 @@ def wide_net():
     return Net(banks, list({debt[:3]: debt for debt in debts}.values()))
 
 
-def chain_net(size, claim):
+def chain_net(size: int, claim: int) -> Net:
     """Each bank owes the one before it, in the last class. The last bank has a unit, and all others have nothing."""
     banks = [Bank(f"bank {i}", int(i == size - 1), RULES[i % 6], 0) for i in range(size)]
     return Net(banks, [Debt(i, i - 1, 9, claim) for i in range(1, size)])
 
 
-def greatest_net():
+def greatest_net() -> Net:
     """Few banks with the greatest numbers: cash, claims, and debts outside, by all rules. Some owe more than they
     have, some pay nothing."""
     names = ["n" * 64, "é" * 32, "y", "漢" * 21, "\U0010ffff" * 16, "x", "total", "rounds"]
@@ -86,31 +101,24 @@ def greatest_net():
     return Net(banks, debts)
 
 
-def column_net():
+def column_net() -> Net:
     """1,000 banks with names of 64 bytes and the greatest cash, that owe the most outside. All owe one of them in
     each class."""
     banks = [Bank(f"{i:064}", CASH, RULES[i % 6], OUTSIDE) for i in range(1000)]
     return Net(banks, [Debt(i, 0, c, 1_112) for i in range(1, 1000) for c in range(1, 10)])
 
 
-class Extremes(Case):
-    def write(self, net, second=True):
-        self.files = [
-            "--banks",
-            self.file("banks.csv", model.banks_text(net, second)),
-            "--debts",
-            self.file("debts.csv", model.debts_text(net)),
-        ]
+def late(text: str, size: int) -> str:
+    """The text of a file with blank records after its header and at its end, with so many bytes or as few as it has
+    then."""
+    text = text.replace("\n", "\n" + ("," * 70 + "\n") * 2, 1) + '""\n' + "," * 300 + "\n"
+    room = max(0, size - len(text.encode()))
+    return text.replace("\n", "\n" + ",\n" * (room // 2), 1) + "\n" * (room % 2)
 
-    def same(self, wanted, task, *more, files=None):
-        """Compares long texts without a long message, and goes on."""
-        with self.subTest(task=task, more=[str(word)[:80] for word in more]):
-            told = self.printed(task, *(self.files if files is None else files), *more)
-            if told != wanted:
-                lines = [pair for pair in zip(told.split("\n"), wanted.split("\n")) if pair[0] != pair[1]]
-                self.fail(f"{task}: {len(told)} bytes in place of {len(wanted)}; first {lines[:1]}")
 
-    def journals(self, net, low, plans):
+class Extremes(Compared):
+    def journals(self, net: Net, low: List[int], plans: List[List[str]]) -> None:
+        """The journal of each plan is lawful, ends at the least payments, and is replayed."""
         payments = model.payments_text(net, low)
         for plan in plans:
             with self.subTest(task="journal", plan=plan):
@@ -124,7 +132,16 @@ class Extremes(Case):
                     self.file("journal.csv", journal),
                 )
 
-    def every_task(self, net, scenarios, saved, keeps=(0, 1, 999, 1000), plans=PLANS):
+    def every_task(
+        self,
+        net: Net,
+        scenarios: List[Scenario],
+        saved: List[int],
+        keeps: Tuple[int, ...] = (0, 1, 999, 1000),
+        plans: List[List[str]] = PLANS,
+    ) -> None:
+        """Each task but gen on a network: with these scenarios, rescues of these banks, parts that are kept in default,
+        and plans of workers."""
         low = model.least(net)
         self.write(net)
         payments = model.payments_text(net, low)
@@ -170,68 +187,49 @@ class Extremes(Case):
             for i in range(100)
         ]
         self.every_task(net, scenarios, [0, 5, 7])
-        # One thing at a time: the number of scenarios, each greatest number, and a second loss.
+
+    def test_one_thing_of_scenarios_at_a_time(self):
+        """Their number, each greatest number, and a second loss."""
+        net = greatest_net()
+        self.write(net)
         some = [[Scenario(f"{i}", i, []) for i in range(count)] for count in (0, 1, 2, 5, 6, 7, 16, 64, 100)]
-        some += [
-            [Scenario(name, cut, losses)]
-            for name, cut, losses in (
-                ("n" * 64, 0, []),
-                ("😀" * 16, 1, []),
-                ("cut", 1000, []),
-                ("loss", 5, [(0, CASH)]),
-                ("second", 5, [(0, 1), (1, 2)]),
-                ("alone", 0, [(0, 1), (1, 2)]),
-                ("eight", 0, [(i, 1) for i in range(8)]),
-            )
-        ]
-        for scenarios in some:
-            toml = self.file("some.toml", scenarios_toml(net, scenarios))
-            for more in ([], ["--sweeps", "2"]):
-                with self.subTest(scenarios=str(scenarios)[:100], count=len(scenarios), more=more):
-                    self.assertEqual(
-                        self.printed("stress", *self.files, "--scenarios", toml, *more),
-                        model.stress_text(net, scenarios),
-                    )
-            with self.subTest(task="outcomes", scenarios=str(scenarios)[:100], count=len(scenarios)):
-                self.assertEqual(
-                    self.printed("outcomes", *self.files, "--scenarios", toml), model.outcomes_text(net, scenarios)
-                )
-        # Sums that only a search by halves finds: nothing comes in, or it comes whatever the bank has.
+        for scenarios in [*some, *([scenario] for scenario in ODD_SCENARIOS)]:
+            with self.subTest(scenarios=str(scenarios)[:100], count=len(scenarios)):
+                toml = self.file("some.toml", scenarios_toml(net, scenarios))
+                for more in ([], ["--sweeps", "2"]):
+                    self.same(model.stress_text(net, scenarios), "stress", "--scenarios", toml, *more)
+                self.same(model.outcomes_text(net, scenarios), "outcomes", "--scenarios", toml)
+
+    def test_rescues_that_only_a_search_by_halves_finds(self):
+        """Where nothing comes in, or it comes whatever the bank has."""
+        net = greatest_net()
+        self.write(net)
         for i in (2, 3, 4):
             sum_added = model.due(net, i) - model.estate(net, model.least(net), i)
-            richer = model.added(net, i, sum_added)
             lacks = lambda units: model.due(net, i) - model.estate(
                 model.added(net, i, units), model.least(model.added(net, i, units)), i
             )
             while lacks(sum_added - 1) <= 0:
                 sum_added -= 1
             richer = model.added(net, i, sum_added)
-            text = f"rescue,{net.banks[i].name},{sum_added}\nshort,{lacks(sum_added - 1)}\n\n" + model.payments_text(
-                richer, model.least(richer)
-            )
+            payments = model.payments_text(richer, model.least(richer))
+            text = f"rescue,{net.banks[i].name},{sum_added}\nshort,{lacks(sum_added - 1)}\n\n{payments}"
             self.same(text, "rescue", "--bank", net.banks[i].name)
 
     def test_greatest_sums(self):
         net = column_net()
         scenarios = [Scenario("n" * 64, 0, [(i, CASH - i) for i in range(1000)]), Scenario("cut", 1000, [])]
         # Known beforehand: all pays who kept the cash, and nothing who lost some.
-        with mock.patch.object(
-            model,
-            "least",
-            lambda net, *_, **__: [debt.claim * (net.banks[debt.debtor].cash == CASH) for debt in net.debts],
-        ):
+        least = lambda net, *_, **__: [debt.claim * (net.banks[debt.debtor].cash == CASH) for debt in net.debts]
+        with mock.patch.object(model, "least", least):
             self.every_task(net, scenarios, [999], keeps=(0,), plans=PLANS[1:2])
-        # Who has nothing lacks the most that anybody can owe.
-        net = Net(
-            [Bank(f"bank {i}", 0, "order", OUTSIDE) for i in range(11)], [Debt(0, i, 9, CLAIM) for i in range(1, 11)]
-        )
+
+    def test_the_greatest_sum_that_a_bank_may_lack_is_added(self):
+        banks = [Bank(f"bank {i}", 0, "order", OUTSIDE) for i in range(11)]
+        net = Net(banks, [Debt(0, i, 9, CLAIM) for i in range(1, 11)])
         self.write(net)
-        self.same(
-            f"rescue,bank 0,{OUTSIDE + 10 * CLAIM}\nshort,1\n\n" + model.payments_text(net, [CLAIM] * 10),
-            "rescue",
-            "--bank",
-            "bank 0",
-        )
+        payments = model.payments_text(net, [CLAIM] * 10)
+        self.same(f"rescue,bank 0,{OUTSIDE + 10 * CLAIM}\nshort,1\n\n{payments}", "rescue", "--bank", "bank 0")
 
     def test_without_debts(self):
         banks = [Bank("n" * 64, CASH, "order", OUTSIDE), Bank("B", 3, "adams", 5), Bank("C", 0, "equal", 0)]
@@ -247,64 +245,57 @@ class Extremes(Case):
                 "check",
             )
 
-    def test_long_chains_and_rings(self):
-        size = 1000
-        net = chain_net(size, 2)
+    def test_payments_along_the_longest_chain(self):
+        size, net = 1000, chain_net(1000, 2)
         self.write(net)
         low = [1] * (size - 1)
+        bounds = (
+            "debtor,creditor,class,claim,least,greatest\n"
+            + "".join(f"bank {i},bank {i - 1},9,2,1,1\n" for i in range(1, size))
+            + "\nbank,wave,gridlock,equity\n"
+            + "".join(f"bank {i},{size - i if i else 0},no,{int(i == 0)}\n" for i in range(size))
+        )
         for plan in (PLANS[0], PLANS[1], PLANS[5]):
             self.same(model.payments_text(net, low), "clear", *plan)
             self.same(model.defaults_text(net, low), "defaults", *plan)
-            self.same(
-                "debtor,creditor,class,claim,least,greatest\n"
-                + "".join(f"bank {i},bank {i - 1},9,2,1,1\n" for i in range(1, size))
-                + "\nbank,wave,gridlock,equity\n"
-                + "".join(f"bank {i},{size - i if i else 0},no,{int(i == 0)}\n" for i in range(size)),
-                "bounds",
-                *plan,
-            )
+            self.same(bounds, "bounds", *plan)
         self.same(model.payments_text(net, low), "central")
         journal = self.printed("clear", *self.files, "--show", "journal", *PLANS[0])
         self.assertIsNone(judge_journal(net, low, journal))
-        with self.subTest(task="compress", what="a chain"):
+        with self.subTest(task="compress"):
             self.assertIsNone(judge_compression(net, self.printed("compress", *self.files)))
+
+    def test_losses_and_rescues_along_the_longest_chain(self):
+        net = chain_net(1000, 2)
+        self.write(net)
         # The last bank's unit breaks all of them but the first, which owes nothing, and goes to it.
-        self.same(
-            "bank,cash,own,others,falls\n"
-            + "".join(f"bank {i},{int(i == 999)},0,{int(i == 999)},0\n" for i in range(size))
-            + "\nbank,of,lost,falls\nbank 999,bank 0,1,no\n",
-            "impact",
-        )
-        self.same(
-            "bank,cut,state\nbank 0,1001,sound\n"
-            + "".join(f"bank {i},0,contagion\n" for i in range(1, 999))
-            + "bank 999,0,fundamental\n",
-            "breaking",
-        )
-        for bank, paid in ((1, [2] + low[1:]), (999, [2] * 999)):
-            self.same(
-                f"rescue,bank {bank},1\nshort,1\n\n" + model.payments_text(net, paid),
-                "rescue",
-                "--bank",
-                f"bank {bank}",
-            )
+        ruin = "".join(f"bank {i},{int(i == 999)},0,{int(i == 999)},0\n" for i in range(1000))
+        self.same(f"bank,cash,own,others,falls\n{ruin}\nbank,of,lost,falls\nbank 999,bank 0,1,no\n", "impact")
+        cuts = "".join(f"bank {i},0,contagion\n" for i in range(1, 999))
+        self.same(f"bank,cut,state\nbank 0,1001,sound\n{cuts}bank 999,0,fundamental\n", "breaking")
+        for bank, paid in ((1, [2] + [1] * 998), (999, [2] * 999)):
+            text = f"rescue,bank {bank},1\nshort,1\n\n{model.payments_text(net, paid)}"
+            self.same(text, "rescue", "--bank", f"bank {bank}")
         saves = "".join(f"bank {i},1,1,{i - 1},{999 - i}\n" for i in range(1, 1000))
         pairs = "".join(f"bank {i},bank {j}\n" for i in range(1, 1000) for j in range(1, i))
         self.same(f"bank,added,short,also_saved,still_short\n{saves}\nbank,saves\n{pairs}", "rescues")
+
+    def test_rings_are_cancelled_whole_and_pay_nothing(self):
         for size, claim, cls in ((1000, 5, 9), (200, 1, 3), (10, CLAIM, 5), (4, 7, 1), (3, 7, 9)):
             net = Net(
                 [Bank(f"bank {i}", 0, RULES[i % 6], 0) for i in range(size + (size < 5))],
                 [Debt(i, (i + 1) % size, cls, claim) for i in range(size)],
             )
             self.write(net)
-            with self.subTest(task="compress", what=f"a ring of {size}"):
+            with self.subTest(task="compress", size=size):
                 text = self.printed("compress", *self.files)
                 self.assertIsNone(judge_compression(net, text))
                 self.assertTrue(text.endswith(f"\ncancelled,{size * claim}\n"))
             self.same(model.payments_text(net, [0] * size), "clear")
 
-    def test_many_rounds_and_raises(self):
-        # One unit goes to and fro until both debts are paid.
+    def to_and_fro(self) -> Tuple[Net, List[int], str]:
+        """One unit goes to and fro until both debts are paid, in 55,000 rounds: the network, which is written, what is
+        paid, and its text."""
         units = 55_000
         net = Net(
             [Bank("n" * 64, 1, "losses", 0), Bank("B", 0, "webster", 0), Bank("C", 0, "order", 9)],
@@ -312,33 +303,31 @@ class Extremes(Case):
         )
         low = [units, units, 0]
         self.write(net)
-        payments = model.payments_text(net, low)
+        return net, low, model.payments_text(net, low)
+
+    def test_many_rounds_by_each_plan_of_workers(self):
+        net, low, payments = self.to_and_fro()
+        rescue = model.payments_text(model.added(net, 2, 10), [*low[:2], 1])
         for plan in (PLANS[0], PLANS[1], ["--workers", "2", "--sweeps", "1000"], PLANS[5]):
             self.same(payments, "clear", *plan)
             self.same(model.defaults_text(net, low), "defaults", *plan)
-            self.same(
-                "rescue,C,10\nshort,1\n\n" + model.payments_text(model.added(net, 2, 10), [units, units, 1]),
-                "rescue",
-                "--bank",
-                "C",
-                *plan,
-            )
-        with self.subTest(task="journal"):
-            text = self.printed("clear", *self.files, "--show", "both", "--workers", "1")
-            shown, _, journal = text.partition("\n\n")
-            self.assertEqual(shown + "\n", payments)
-            raises = journal.count("\n") - 2
-            self.assertGreater(raises, 100_000)
-            self.same(f"lawful,{raises}\n\n{payments}", "replay", "--journal", self.file("journal.csv", journal))
+            self.same(f"rescue,C,10\nshort,1\n\n{rescue}", "rescue", "--bank", "C", *plan)
+
+    def test_a_journal_of_many_raises_is_replayed(self):
+        _, _, payments = self.to_and_fro()
+        text = self.printed("clear", *self.files, "--show", "both", "--workers", "1")
+        shown, _, journal = text.partition("\n\n")
+        self.assertEqual(shown + "\n", payments)
+        raises = journal.count("\n") - 2
+        self.assertGreater(raises, 100_000)
+        self.same(f"lawful,{raises}\n\n{payments}", "replay", "--journal", self.file("journal.csv", journal))
+
+    def test_many_rounds_in_the_tasks_without_a_plan(self):
+        net, low, payments = self.to_and_fro()
         self.same(payments, "central")
-        scenarios = [Scenario(f"{i}", 0, []) for i in range(2)]
+        toml = self.file("s.toml", scenarios_toml(net, [Scenario(f"{i}", 0, []) for i in range(2)]))
         block = payments + model.defaults_text(net, low)
-        self.same(
-            "\n".join(f"scenario,{i}\n{block}" for i in range(2)),
-            "stress",
-            "--scenarios",
-            self.file("s.toml", scenarios_toml(net, scenarios)),
-        )
+        self.same("\n".join(f"scenario,{i}\n{block}" for i in range(2)), "stress", "--scenarios", toml)
         with mock.patch.object(model, "least", lambda *_: low):
             self.same(model.costs_text(net, 1000), "costs", "--keep", 1000)
         with self.subTest(task="compress"):
@@ -371,22 +360,22 @@ class Extremes(Case):
                 for plan in PLANS:
                     self.same(text, "gen", *words, *plan, files=[])
 
+    def late_files(self, net: Net, size: int) -> List[Word]:
+        """The words for both files of a network, with late rows and so many bytes."""
+        banks, debts = late(model.banks_text(net, True), size), late(model.debts_text(net), size)
+        return ["--banks", self.file("b.csv", banks), "--debts", self.file("d.csv", debts)]
+
     def test_late_rows(self):
-        net = greatest_net()
-        scenarios = [Scenario("a", 0, [(0, 1)])]
+        net, scenarios = greatest_net(), [Scenario("a", 0, [(0, 1)])]
         toml = "# " + "x" * 200_000 + "\n" + scenarios_toml(net, scenarios)
         toml = self.file("s.toml", "\n" * (LARGEST - len(toml.encode())) + toml)
-        low = model.least(net)
-        raises = [(4294967295, x, to) for x, to in enumerate(low) if to]
-        self.write(net)
-        made, raises = len(raises), model.journal_text(net, raises, 99)
-        payments = model.payments_text(net, low)
+        payments = model.payments_text(net, model.least(net))
         texts = [
             (model.check_text(net), "check"),
             (model.banks_text(net, True), "convert"),
             (payments, "clear"),
             (payments, "central"),
-            (model.defaults_text(net, low), "defaults"),
+            (model.defaults_text(net, model.least(net)), "defaults"),
             (model.bounds_text(net), "bounds"),
             (model.costs_text(net, 500), "costs", "--keep", 500),
             (model.rescue_text(net, 0), "rescue", "--bank", net.banks[0].name),
@@ -394,89 +383,76 @@ class Extremes(Case):
             (model.impact_text(net), "impact"),
             (model.outcomes_text(net, scenarios), "outcomes", "--scenarios", toml),
         ]
-
-        def late(text, size):
-            """The text with blank records after its header and at its end, with so many bytes or as few as it has
-            then."""
-            text = text.replace("\n", "\n" + ("," * 70 + "\n") * 2, 1) + '""\n' + "," * 300 + "\n"
-            room = max(0, size - len(text.encode()))
-            return text.replace("\n", "\n" + ",\n" * (room // 2), 1) + "\n" * (room % 2)
-
-        for size in (0, 4_000, LARGEST):
-            files = [
-                "--banks",
-                self.file("b.csv", late(model.banks_text(net, True), size)),
-                "--debts",
-                self.file("d.csv", late(model.debts_text(net), size)),
-            ]
+        for size in SIZES:
+            files = self.late_files(net, size)
             for text, task, *more in texts:
                 self.same(text, task, *more, files=files)
             with self.subTest(task="compress", size=size):
                 self.assertIsNone(judge_compression(net, self.printed("compress", *files)))
-            with self.subTest(task="replay", size=size):
-                journal = self.file("j.csv", late(raises, size))
-                self.same(f"lawful,{made}\n\n{payments}", "replay", "--journal", journal, files=files)
 
-    def test_long_lists_of_words(self):
+    def test_late_rows_of_a_journal(self):
         net = greatest_net()
         low = model.least(net)
-        self.write(net)
-        # Names of files as long as the system takes them: 4,095 bytes.
+        raises = [(4294967295, x, to) for x, to in enumerate(low) if to]
+        text = f"lawful,{len(raises)}\n\n{model.payments_text(net, low)}"
+        for size in SIZES:
+            with self.subTest(size=size):
+                journal = self.file("j.csv", late(model.journal_text(net, raises, 99), size))
+                self.same(text, "replay", "--journal", journal, files=self.late_files(net, size))
+
+    def long_files(self, *texts: str) -> List[pathlib.Path]:
+        """Files of these texts, whose names are as long as the system takes them: 4,095 bytes."""
         folder = self.folder
         while (room := 4094 - len(bytes(folder))) > 255:
             folder = folder / ("é" * 100)
-            folder.mkdir()
-        long = [folder / (letter * (room // len(letter.encode()))) for letter in ("b", "😀", "s", "j")]
-        long[0].write_text(model.banks_text(net, True))
-        long[1].write_text(model.debts_text(net))
-        third = long[2]
-        third.write_text(scenarios_toml(net, [Scenario("a", 1, [])]))
-        journal = long[3]
-        raises = [(0, x, to) for x, to in enumerate(low) if to]
-        journal.write_text(model.journal_text(net, raises, 1))
-        files = ["--banks", long[0], "--debts", long[1]]
-        more = ["--workers", f"{64:020}", "--sweeps", f"{1000:020}"]
-        payments = model.payments_text(net, low)
-        for plan in ([], more[:2], more, [*more, "--show", "payments"], [*more, "--show", "payments", "--"]):
+            folder.mkdir(exist_ok=True)
+        paths = [folder / (letter * (room // len(letter.encode()))) for letter in ("b", "😀", "s", "j")]
+        for path, text in zip(paths, texts):
+            path.write_text(text)
+        return paths[: len(texts)]
+
+    def test_the_longest_names_of_files_and_numbers_are_taken(self):
+        net, scenarios = greatest_net(), [Scenario("a", 1, [])]
+        toml = scenarios_toml(net, scenarios)
+        banks, debts, third = self.long_files(model.banks_text(net, True), model.debts_text(net), toml)
+        files = ["--banks", banks, "--debts", debts]
+        payments, stress = model.payments_text(net, model.least(net)), model.stress_text(net, scenarios)
+        for plan in ([], LONG_PLAN[:2], LONG_PLAN, [*LONG_PLAN, "--show", "payments"]):
             self.same(payments, "clear", *plan, files=files)
-        for plan in ([], more, [*more, "--"]):
-            self.same(
-                model.stress_text(net, [Scenario("a", 1, [])]), "stress", "--scenarios", third, *plan, files=files
-            )
+        for plan in ([], LONG_PLAN):
+            self.same(stress, "stress", "--scenarios", third, *plan, files=files)
             self.same(model.rescue_text(net, 0), "rescue", "--bank", net.banks[0].name, *plan, files=files)
-            self.same(
-                model.gen_text(generated(5, 7, 20)),
-                "gen",
-                "--seed",
-                "5",
-                "--size",
-                "7",
-                "--tries",
-                "20",
-                *plan,
-                files=[],
-            )
-        keep = ["--keep", f"{1000:020}"]
-        self.same(model.outcomes_text(net, [Scenario("a", 1, [])]), "outcomes", "--scenarios", third, "--", files=files)
-        for task, *plan in (
-            ["check"],
-            ["central"],
-            ["convert"],
-            ["compress"],
-            ["defaults", *more],
-            ["bounds", *more],
-            ["costs", *keep],
-            ["cost-bounds", *keep],
-            ["breaking"],
-            ["impact"],
-            ["rescues"],
-        ):
-            with self.subTest(task=task):
-                self.assertEqual(self.printed(task, *files, *plan, "--"), self.printed(task, *self.files, *plan))
-        with self.subTest(task="replay"):
-            self.assertEqual(
-                self.printed("replay", *files, "--journal", journal, "--"), f"lawful,{len(raises)}\n\n{payments}"
-            )
+            words = ["--seed", "5", "--size", "7", "--tries", "20"]
+            self.same(model.gen_text(generated(5, 7, 20)), "gen", *words, *plan, files=[])
+
+    def test_two_dashes_may_end_the_words_of_each_task(self):
+        net, scenarios = greatest_net(), [Scenario("a", 1, [])]
+        low = model.least(net)
+        raises = [(0, x, to) for x, to in enumerate(low) if to]
+        banks, debts, third, journal = self.long_files(
+            model.banks_text(net, True),
+            model.debts_text(net),
+            scenarios_toml(net, scenarios),
+            model.journal_text(net, raises, 1),
+        )
+        files, payments = ["--banks", banks, "--debts", debts], model.payments_text(net, low)
+        lawful = f"lawful,{len(raises)}\n\n{payments}"
+        # The text of a task, and its words after those that name the files.
+        for text, task, *words in [
+            (payments, "clear", *LONG_PLAN, "--show", "payments"),
+            (model.stress_text(net, scenarios), "stress", "--scenarios", third, *LONG_PLAN),
+            (model.outcomes_text(net, scenarios), "outcomes", "--scenarios", third),
+            (model.rescue_text(net, 0), "rescue", "--bank", net.banks[0].name, *LONG_PLAN),
+            (lawful, "replay", "--journal", journal),
+        ]:
+            self.same(text, task, *words, "--", files=files)
+        words = ["--seed", "5", "--size", "7", "--tries", "20", *LONG_PLAN]
+        self.same(model.gen_text(generated(5, 7, 20)), "gen", *words, "--", files=[])
+        self.write(net)
+        for task in ("check", "central", "convert", "compress", "breaking", "impact", "rescues"):
+            self.same(self.printed(task, *self.files), task, "--", files=files)
+        for task, *plan in (["defaults", *LONG_PLAN], ["bounds", *LONG_PLAN], ["costs", *KEEP], ["cost-bounds", *KEEP]):
+            self.same(self.printed(task, *self.files, *plan), task, *plan, "--", files=files)
 
 
 if __name__ == "__main__":

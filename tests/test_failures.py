@@ -1,12 +1,13 @@
 """A tool with one thing that fails does not end with 0: an input that is not there, an output that cannot be written, a
 program that fails. It changes nothing but what it is told to write."""
 import unittest
+from typing import Any, Dict, List
 
 from places import EachTool
 
 
 class Failures(EachTool):
-    def fails(self, name, words, how, about):
+    def fails(self, name: str, words: List[Any], how: Dict[str, Any], about: Any) -> None:
         """A tool does not do well, and is not ended by a signal."""
         with self.subTest(about, tool=name):
             done = self.attempt(name, *words, **how)

@@ -3,6 +3,7 @@ import os
 import subprocess
 import sys
 import unittest.mock
+from typing import Any, Dict
 
 from common import PACKAGES, ROOT, Case, files_of, run_of
 
@@ -11,7 +12,7 @@ from clearing_tools.runner import ToolError  # noqa: E402
 
 
 class Files(Case):
-    def state(self):
+    def state(self) -> Dict[str, bytes]:
         return {path.name: path.read_bytes() for path in self.folder.iterdir() if path.is_file()}
 
     def test_files_are_written_with_their_folders_and_modes(self):
@@ -53,7 +54,7 @@ class Files(Case):
                 real = {"os.replace": os.replace, "os.fchmod": os.fchmod, "put_into": files.put_into}[call]
                 left = [at]
 
-                def failing(*words, **options):
+                def failing(*words: Any, **options: Any) -> Any:
                     left[0] -= 1
                     if left[0] == -1:
                         raise OSError(28, "No space left on device")

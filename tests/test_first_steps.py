@@ -7,9 +7,10 @@ import subprocess
 import sys
 import time
 import unittest
+from typing import Any
 
 import test_launcher
-from common import CHAIN, PACKAGES, PROGRAM, ROOT, files_of, run_of
+from common import CHAIN, PACKAGES, PROGRAM, ROOT, Word, files_of, run_of
 
 FILES = files_of(CHAIN)
 WAYS = (
@@ -39,7 +40,7 @@ class FirstSteps(test_launcher.Launcher):
             "PYTHONDONTWRITEBYTECODE": "1",
         }
 
-    def ask(self, name, *words, **more):
+    def ask(self, name: str, *words: Word, **more: Any) -> "subprocess.CompletedProcess[str]":
         run = [*run_of(name)[:-1], str(self.root / "bin" / name), *map(str, words)]
         return subprocess.run(
             run,

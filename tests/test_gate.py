@@ -9,6 +9,7 @@ import signal
 import subprocess
 import time
 import unittest.mock
+from typing import Any, Dict, List, Tuple
 
 from common import ROOT, Case, loaded
 
@@ -74,7 +75,7 @@ class Machine(Case):
             shutil.copy(ROOT / "tests/packages.sh", self.root / "tests")
         (self.root / "tests/packages.txt").write_text("# wanted\nmoon   # the moon\nsea    # and the sea\n\nstar\n")
 
-    def ran(self, *words, **more):
+    def ran(self, *words: str, **more: Any) -> Tuple[int, List[str]]:
         """The status and the lines of a command of the repository, what was called, and the seconds it took."""
         self.calls.write_text("")
         environment = {
@@ -103,7 +104,7 @@ class Machine(Case):
 
 
 class Packages(Machine):
-    def names(self):
+    def names(self) -> List[str]:
         return sorted(self.installed.read_text().split())
 
     def test_what_is_missing_is_told(self):
@@ -246,7 +247,7 @@ class Gate(Machine):
         self.assertEqual(status, 0, lines)
         self.assertIn("one side has `\u03bb x. x \u2261 x`", lines)
 
-    def gate(self):
+    def gate(self) -> Any:
         """The module of the script, of the small repository."""
         return loaded(self.root / "tools/dev/gate.py")
 
@@ -372,7 +373,7 @@ class Gate(Machine):
                         self.assertLess(abs(work.minutes_left() - left), left / 3, (jobs, slow, now / 60, line))
 
     @staticmethod
-    def run_of(crates, jobs):
+    def run_of(crates: Dict[str, Any], jobs: int) -> List[Tuple[float, str]]:
         """When each line is told of a run of `rt ci` by so many jobs: of the steps that wait for nothing it begins
         first with the one that has most lines of code behind it."""
         takes = {}
@@ -389,7 +390,7 @@ class Gate(Machine):
                         }[phase],
                     )
 
-        def before(step):
+        def before(step: Any) -> List[Any]:
             name, phase = step
             steps = (
                 [(name, "proof"), (name, "tests")]
@@ -399,7 +400,7 @@ class Gate(Machine):
             return [each for each in steps if each in takes]
 
         @functools.cache
-        def behind(step):
+        def behind(step: Any) -> float:
             return crates[step[0]][3] + max((behind(each) for each in takes if step in before(each)), default=0)
 
         left, running, ended, lines, now = sorted(takes, key=behind, reverse=True), [], set(), [], 0.0
@@ -462,7 +463,7 @@ echo "3 passed, 0 failed"
         gate = self.gate()
         watch = gate.Watch()
 
-        def took(*rows):
+        def took(*rows: str) -> List[str]:
             watch.checks = {(number, 0): gate.Check(*row) for number, row in enumerate(rows)}
             return [line.partition(" took ")[0] for line in watch.dear()]
 
@@ -504,15 +505,12 @@ setsid sh -c 'trap "" TERM INT HUP; while :; do /bin/sleep 0.2; done' marked-wor
                 start_new_session=True,
             )
             self.addCleanup(going.wait)
-            deadline = time.monotonic() + 60
-            while (not self.calls.read_text() or len(self.going()) < 3) and time.monotonic() < deadline:
-                time.sleep(0.1)
-            self.assertGreaterEqual(len(self.going()), 3)
+            self.until(lambda: self.calls.read_text() and len(self.going()) >= 3)
             going.send_signal(number)
             self.assertEqual(going.wait(timeout=60), 128 + number)
             self.assertEqual(self.going(), [], signal.Signals(number).name)
 
-    def going(self):
+    def going(self) -> List[Any]:
         """The work of the toolchain that goes on: processes by their words, in the folder of the test."""
         found = []
         for path in pathlib.Path("/proc").glob("[0-9]*"):

@@ -1,9 +1,10 @@
 """`clearing-gen-files` writes the network that `gen` makes of the same words."""
+from typing import List
 from common import Case
 
 
 class GenFiles(Case):
-    def seven_lines(self, banks, debts):
+    def seven_lines(self, banks: str, debts: str) -> List[str]:
         """The lines of the task `gen`, told from what `check` and `defaults` print of two files."""
         lines = self.printed("check", "--banks", banks, "--debts", debts).splitlines()[:4]
         table = self.printed("defaults", "--banks", banks, "--debts", debts).splitlines()

@@ -2,8 +2,9 @@
 import subprocess
 import sys
 import xml.etree.ElementTree
+from typing import Any, Tuple
 
-from common import ROOT, Case, clearing, files_of, needs_modules, python_with, tool
+from common import ROOT, Case, Word, clearing, files_of, needs_modules, python_with, tool
 
 from clearing_tools.exports import graphml  # noqa: E402
 
@@ -54,12 +55,12 @@ class Texts(Case):
 
 @needs_modules("networkx")
 class Graph(Case):
-    def graph(self, *words, banks=True):
+    def graph(self, *words: Word, banks: bool = True) -> Any:
         """The nodes and the edges of the graph of a network, with their attributes by name."""
         texts = [self.file(task, clearing(task, *words).stdout) for task in ("clear", "defaults")]
         return self.read(texts, *(words[:2] if banks else ()))
 
-    def read(self, texts, *more):
+    def read(self, texts: Any, *more: Any) -> Tuple[Any, Any]:
         out = self.folder / "graph.graphml"
         done = tool("clearing-to-graphml", *texts, "--out", out, *more, python=python_with("networkx"))
         self.assertEqual((done.returncode, done.stdout, done.stderr), (0, "", ""))

@@ -1,4 +1,5 @@
 """Each tool has a help in one layout, and refuses words that it does not know."""
+from typing import List
 from common import ROOT, Case
 
 TOOLS = sorted((ROOT / "bin").iterdir())
@@ -7,7 +8,7 @@ TOOLS = sorted((ROOT / "bin").iterdir())
 HEADS = ("In:", "Out:", "Ends with 0")
 
 
-def faults_of(said):
+def faults_of(said: str) -> List[str]:
     """What is wrong with the layout of a help text: a head that begins no line, and a line of the paragraphs of In
     and Out that does not stand below their text."""
     faults = [head for head in HEADS if sum(line.startswith(head) for line in said.split("\n")) != 1]

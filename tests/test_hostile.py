@@ -10,6 +10,7 @@ import random
 import unicodedata
 import unittest
 import xml.etree.ElementTree as tree
+from typing import Any, Iterator, List
 
 from common import python_with
 from odd_names import DASHED, MARKUP, MORE_NAMES, ODD_NAMES, all_names, untrimmed
@@ -37,7 +38,7 @@ RANGES = [
 ]
 
 
-def drawn_name(rng):
+def drawn_name(rng: random.Random) -> str:
     """A name of 1 to 64 bytes, of characters of one kind or of all kinds."""
     size, name = rng.choice([1, 2, 3, rng.randint(1, 64), 64]), ""
     kinds = rng.choice([RANGES, [rng.choice(RANGES)]])
@@ -51,7 +52,7 @@ def drawn_name(rng):
     return name.strip(" \t")
 
 
-def names_of(rng, count):
+def names_of(rng: random.Random, count: int) -> List[str]:
     """So many names at random."""
     names = {}
     while len(names) < count:
@@ -60,7 +61,7 @@ def names_of(rng, count):
     return list(names)
 
 
-def networks():
+def networks() -> Iterator[List[str]]:
     """The names of each network: all that are odd, some that have all characters, and random ones."""
     yield untrimmed([*DASHED, *ODD_NAMES, *MARKUP, *MORE_NAMES])
     yield list(all_names(last=0xFFFD))[::5][:250]
@@ -69,7 +70,7 @@ def networks():
 
 
 class Names(Place):
-    def each_network(self):
+    def each_network(self) -> Iterator[Any]:
         """The networks, each with the names, the banks and the debts."""
         for number, names in enumerate(networks()):
             self.network = f"network {number} of the seed {SEED}"

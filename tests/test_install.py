@@ -4,17 +4,18 @@ import pathlib
 import re
 import subprocess
 import sys
+from typing import Optional
 
-from common import PROGRAM, ROOT, Case
+from common import PROGRAM, ROOT, Case, Word
 
 
 class Install(Case):
-    def installed(self, *words, program=None):
-        environment = {**os.environ, "CLEARING": program or self.program()}
+    def installed(self, *words: Word, program: Optional[Word] = None) -> "subprocess.CompletedProcess[str]":
+        environment = {**os.environ, "CLEARING": program or self.script_that_tells()}
         run = [str(ROOT / "tools/install.sh"), *map(str, words)]
         return subprocess.run(run, env=environment, stdin=subprocess.DEVNULL, capture_output=True, encoding="utf-8")
 
-    def program(self):
+    def script_that_tells(self) -> str:
         """A program to install: a script that hands its words on."""
         script = self.executable("program", 'echo "$*"\n')
         return str(script)

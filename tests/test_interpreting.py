@@ -7,8 +7,9 @@ import subprocess
 import sys
 import tempfile
 import unittest
+from typing import Any, Iterator, List, Tuple
 
-from common import PROGRAM, ROOT, loaded
+from common import PROGRAM, ROOT, Word, loaded
 
 sys.path.insert(0, str(ROOT / "tests/system"))
 from model import Bank, Debt, Net, estate, least, share, state
@@ -16,7 +17,7 @@ from model import Bank, Debt, Net, estate, least, share, state
 TEXT = (ROOT / "docs/INTERPRETING.md").read_text(encoding="utf-8")
 
 
-def told(task, name):
+def told(task: str, name: str) -> List[List[str]]:
     files = [f"examples/{name}/{kind}.csv" for kind in ("banks", "debts")]
     run = [PROGRAM, task, "--banks", files[0], "--debts", files[1]]
     return [
@@ -25,7 +26,7 @@ def told(task, name):
     ]
 
 
-def by_program(name):
+def by_program(name: str) -> Tuple[List[str], List[str]]:
     """What is paid, and how many are in default: under the least payments, and under the greatest."""
     debts = [row for row in told("bounds", name) if len(row) == 6 and row[3].isdigit()]
     paid = [sum(int(row[place]) for row in debts) for place in (4, 5)]
@@ -34,14 +35,14 @@ def by_program(name):
     return [f"{sum_:,}" for sum_ in paid], [str(short), str(short - stuck)]
 
 
-def in_real_numbers(name, *words, end="greatest"):
+def in_real_numbers(name: str, *words: Word, end: str = "greatest") -> Tuple[str, str]:
     run = [sys.executable, "examples/pro-rata/real.py", ROOT / "examples" / name, *words]
     printed = subprocess.run(run, cwd=ROOT, capture_output=True, encoding="utf-8", check=True).stdout
     found = re.search(rf"^{end}: paid ([\d.]+), banks that leave debts unpaid: (\d+)$", printed, re.MULTILINE)
     return f"{float(found[1]):,.1f}", found[2]
 
 
-def real_module():
+def real_module() -> Any:
     return loaded(ROOT / "examples/pro-rata/real.py")
 
 
@@ -67,7 +68,7 @@ class RealNumbers(unittest.TestCase):
         class Counted(list):
             passes = 0
 
-            def __iter__(self):
+            def __iter__(self) -> Iterator[Any]:
                 self.passes += 1
                 return super().__iter__()
 

@@ -3,7 +3,7 @@ tests/system/model.py where that is quick enough, else by another route to the s
 import random
 import sys
 import unittest
-from typing import List, Tuple
+from typing import Any, List, Tuple
 
 from common import ROOT, clearing
 from compared import Compared
@@ -15,7 +15,7 @@ from networks import judge_compression, judge_journal  # noqa: E402
 BANKS, DEBTS, UNITS = 1000, 20000, 10_000_000
 
 
-def small_claims(rng):
+def small_claims(rng: random.Random) -> Any:
     """Small claims of all classes by all rules, where money is short. One rich bank owes what is left of the units,
     and pays it."""
     keys = {}
@@ -38,7 +38,7 @@ def small_claims(rng):
     return model.Net(banks, debts)
 
 
-def large_claims():
+def large_claims() -> Any:
     """Claims of hundreds of units by all rules, where half of the cash that would do is there."""
     debts = [
         model.Debt(x % 1000, (x % 1000 + 1 + x // 1000 * 37) % 1000, 1 + x % 3, 1 + x * 104729 % 990)
@@ -82,7 +82,7 @@ class Largest(Compared):
         debtor = lines[-3].split(",")[1]
         self.assertEqual((done.returncode, done.stdout), (7, f"unfinished,{debtor}\n".encode()))
 
-    def stressed(self, net):
+    def stressed(self, net: Any) -> None:
         """Scenarios one by one, each as the network that it leaves is cleared."""
         scenarios = [
             model.Scenario("as it is", 0, []),
@@ -117,7 +117,7 @@ class Largest(Compared):
             self.file("s.toml", toml),
         )
 
-    def standing(self, banks):
+    def standing(self, banks: Any) -> Tuple[List[int], List[str]]:
         """What each bank keeps where the banks are these, and its state."""
         files = ["--banks", self.file("other.csv", model.banks_text(model.Net(banks, []), True)), *self.files[2:]]
         rows = [line.split(",") for line in self.printed("defaults", *files).splitlines()[1:-2]]

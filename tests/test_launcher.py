@@ -7,6 +7,7 @@ import signal
 import subprocess
 import time
 import unittest
+from typing import Any, List
 
 from common import ROOT, Case
 
@@ -61,7 +62,9 @@ class Launcher(Case):
         for name in ("build.py", "crates.py"):
             shutil.copy(ROOT / "tools/dev" / name, self.root / "tools/dev")
 
-    def run_at(self, root, *words, path=True, **more):
+    def run_at(
+        self, root: pathlib.Path, *words: str, path: bool = True, **more: Any
+    ) -> "subprocess.CompletedProcess[str]":
         environment = {
             "PATH": (f"{self.folder}/bin:" if path else "") + "/usr/bin:/bin",
             "CALLS": str(self.calls),
@@ -81,10 +84,10 @@ class Launcher(Case):
             encoding="utf-8",
         )
 
-    def builds(self):
+    def builds(self) -> int:
         return self.calls.read_text().count(": run ")
 
-    def built(self):
+    def built(self) -> pathlib.Path:
         """The repository, once it was built."""
         done = self.run_at(self.root, "a", "b")
         self.assertEqual((done.returncode, done.stdout, self.builds()), (0, "a b here\n", 1), done.stderr)
@@ -92,7 +95,7 @@ class Launcher(Case):
         self.wait_for_a_tick(self.root / "crates/clear_main/out/built.sums")
         return self.root
 
-    def wait_for_a_tick(self, path):
+    def wait_for_a_tick(self, path: pathlib.Path) -> None:
         """Until what is written next is later than the file, also where the file system's clock goes in steps."""
         probe = self.folder / "tick"
         probe.touch()
@@ -100,7 +103,7 @@ class Launcher(Case):
             time.sleep(0.001)
             probe.touch()
 
-    def quiet(self, root, **more):
+    def quiet(self, root: pathlib.Path, **more: Any) -> None:
         done = self.run_at(root, "x", **more)
         self.assertEqual((done.returncode, done.stdout, done.stderr), (0, "x here\n", ""))
 
@@ -110,7 +113,7 @@ class Launcher(Case):
         self.quiet(self.root, path=False)
         self.assertEqual(self.builds(), 1)
 
-    def steps(self):
+    def steps(self) -> List[str]:
         return [
             line.removesuffix(" -- check --banks data/banks.csv --debts data/debts.csv")
             for line in self.calls.read_text().splitlines()
@@ -291,7 +294,7 @@ class Launcher(Case):
         self.assertEqual(done.returncode, 8)
         self.assertIn("the build failed", done.stderr)
 
-    def going(self):
+    def going(self) -> "subprocess.Popen[str]":
         """A build that goes on for long, in a session of its own."""
         environment = {
             "PATH": f"{self.folder}/bin:/usr/bin:/bin",
@@ -307,17 +310,12 @@ class Launcher(Case):
             encoding="utf-8",
             start_new_session=True,
         )
-        deadline = time.monotonic() + 60
-        while not self.times.read_text() and time.monotonic() < deadline:
-            time.sleep(0.1)
+        self.until(self.times.read_text)
         time.sleep(0.5)
         return going
 
-    def ends(self):
-        deadline = time.monotonic() + 10
-        while self.is_running() and time.monotonic() < deadline:
-            time.sleep(0.1)
-        self.assertFalse(self.is_running())
+    def ends(self) -> None:
+        self.until(lambda: not self.rt_runs(), 10)
 
     def test_an_interrupt_ends_the_build(self):
         for number in (signal.SIGTERM, signal.SIGINT, signal.SIGHUP):
@@ -325,7 +323,7 @@ class Launcher(Case):
                 self.times.write_text("")
                 self.interrupted(number)
 
-    def interrupted(self, number):
+    def interrupted(self, number: int) -> None:
         going = self.going()
         going.send_signal(number)
         message = going.communicate(timeout=20)[1]
@@ -360,11 +358,11 @@ class Launcher(Case):
         going.wait(timeout=20)
         self.ends()
 
-    def is_running(self):
+    def rt_runs(self) -> bool:
         return any(str(self.rt).encode() in self.text_of(path) for path in pathlib.Path("/proc").glob("[0-9]*/cmdline"))
 
     @staticmethod
-    def text_of(path):
+    def text_of(path: pathlib.Path) -> bytes:
         try:
             return path.read_bytes()
         except OSError:

@@ -2,22 +2,24 @@
 do, that a network within the standard limits has the same answers by both, and that `--limits` is a word of each task
 that reads files."""
 import itertools
+import subprocess
 import unittest
+from typing import Any, List, Sequence, Tuple
 
 import test_tasks
-from common import CHAIN, EXAMPLES, TWELVE, Case, clearing, files_of
+from common import CHAIN, EXAMPLES, TWELVE, Case, Word, clearing, files_of
 
 BANKS, DEBTS = b"name,cash,rule\n", b"debtor,creditor,class,claim\n"
 WIDE, USAGE = ("--limits", "wide"), b"clearing: the command line is not understood\n"
 MILLION = 1_000_000
 
 
-def some_banks(count):
+def some_banks(count: int) -> bytes:
     """A banks file of so many banks."""
     return BANKS + b"".join(b"%d,0,order\n" % bank for bank in range(count))
 
 
-def some_debts(count, size):
+def some_debts(count: int, size: int) -> bytes:
     """A debts file of so many debts of no unit between so many banks."""
     names = [b"%d" % bank for bank in range(size)]
     pairs = (
@@ -30,31 +32,31 @@ def some_debts(count, size):
     return DEBTS + b"".join(itertools.islice(pairs, count))
 
 
-def claims_of(claims):
+def claims_of(claims: Sequence[int]) -> Tuple[bytes, bytes]:
     """A banks file of ten banks, and a debts file with these claims between two of them each."""
     keys = [(one, other, cls) for cls in range(1, 10) for one in range(10) for other in range(10) if one != other]
     return some_banks(10), DEBTS + b"".join(b"%d,%d,%d,%d\n" % (*key, claim) for key, claim in zip(keys, claims))
 
 
 class Rows(Case):
-    def asked(self, banks, debts, *words, task="check"):
+    def asked(self, banks: bytes, debts: bytes, *words: Word, task: str = "check") -> Tuple[int, bytes, str]:
         """The status, the first lines of the output, and the message of a run on two files."""
         done = clearing(
             task, "--banks", self.file("banks.csv", banks), "--debts", self.file("debts.csv", debts), *words
         )
         return done.returncode, done.stdout, done.stderr.decode()
 
-    def refused(self, message, banks, debts, *words, task="check"):
+    def refused(self, message: str, banks: bytes, debts: bytes, *words: Word, task: str = "check") -> None:
         """A run refuses a file with a message."""
         told = self.asked(banks, debts, *words, task=task)
         self.assertEqual((told[0], told[1][:100], told[2]), (4, b"", f"clearing: {message}\n"), (task, words))
 
-    def accepted(self, counts, banks, debts, *words):
+    def accepted(self, counts: Any, banks: bytes, debts: bytes, *words: Word) -> None:
         """A run of `check` takes the files, and begins with these lines."""
         status, output, message = self.asked(banks, debts, *words)
         self.assertEqual((status, output.partition(b"\n\n")[0].decode(), message), (0, counts, ""), words)
 
-    def both(self, message, counts, banks, debts):
+    def both(self, message: str, counts: Any, banks: bytes, debts: bytes) -> None:
         """What the standard limits refuse with a message, said or not, and the wide ones take."""
         self.refused(message, banks, debts)
         self.refused(message, banks, debts, "--limits", "standard")
@@ -162,7 +164,7 @@ class Large(Case):
             *WIDE,
         ]
 
-    def least(self, cash):
+    def least(self, cash: List[int]) -> List[int]:
         """What is paid on each debt at least, bank by bank: from no payment on, all banks pay again until nothing
         changes."""
         receipts, paid = [0] * self.BANKS, []
@@ -179,7 +181,7 @@ class Large(Case):
             for (to, _), units in zip((debt for row in self.rows for debt in row), paid):
                 receipts[to] += units
 
-    def lines(self, cash):
+    def lines(self, cash: List[int]) -> List[str]:
         """The lines of payments of this network with other cash."""
         debts = (f"B{bank},B{to},1,{claim}" for bank, row in enumerate(self.rows) for to, claim in row)
         return [f"{debt},{units}" for debt, units in zip(debts, self.least(cash))]
@@ -282,7 +284,7 @@ class Words(Case):
                 self.assertEqual(clearing(*words, *WIDE).stdout, clearing(*words).stdout, words)
 
 
-def widely(*words):
+def widely(*words: Word) -> "subprocess.CompletedProcess[bytes]":
     """A run with wide limits beside, of the tasks that have the word."""
     return clearing(*(() if "gen" in words else WIDE), *words)
 
@@ -290,7 +292,7 @@ def widely(*words):
 class KnownTextsByWideLimits(test_tasks.KnownTexts):
     """The texts that are known of networks within the standard limits, with the wide ones said."""
 
-    def printed(self, *words):
+    def printed(self, *words: Word) -> str:
         done = widely(*words)
         self.assertEqual((done.returncode, done.stderr), (0, b""), words)
         return done.stdout.decode()
@@ -302,7 +304,7 @@ class OtherFormsByWideLimits(test_tasks.OtherForms):
     printed = KnownTextsByWideLimits.printed
 
 
-def load_tests(loader, *_):
+def load_tests(loader: unittest.TestLoader, *_: Any) -> unittest.TestSuite:
     """The tests of this module, without those that it took from another."""
     cases = (Rows, Words, Large, KnownTextsByWideLimits, OtherFormsByWideLimits)
     return unittest.TestSuite(loader.loadTestsFromTestCase(case) for case in cases)

@@ -6,6 +6,7 @@ import re
 import subprocess
 import types
 import unittest
+from typing import Any
 
 from common import CHAIN, ROOT, Case, files_of, needs_modules, needs_packages, python_with, tool
 
@@ -165,7 +166,7 @@ class Tools(Case):
 
 
 class LargeReports(unittest.TestCase):
-    def large(self, count, has_unpaid=True):
+    def large(self, count: int, has_unpaid: bool = True) -> Any:
         """What a report has of a network drawn at random, as far as is asked for here."""
         rng = random.Random(count)
         names = [f"N{at}" for at in range(count)]

@@ -1,8 +1,9 @@
 """Every way in which an amount of a sheet does not come into the network, and the line that tells it: a fault, or what
 was left out with its count and sum."""
 import unittest
+from typing import Any, Tuple
 
-from common import Case
+from common import Case, Word
 
 from clearing_tools.imports import exposure_list as lists
 from clearing_tools.imports import matrix, totals
@@ -16,16 +17,16 @@ RATES = "currency,rate\nUSD,0.5\nGBP,2\n"
 
 
 class Importing(Case):
-    def files(self, **texts):
+    def files(self, **texts: str) -> None:
         for name, text in texts.items():
             self.file(f"{name}.csv", text)
 
-    def word(self, word):
+    def word(self, word: str) -> str:
         """A word of the command, with the names of files in the folder of the test."""
         before, sign, name = word.rpartition("=")
         return f"{before}{sign}{self.folder / name}" if name.endswith(".csv") else word
 
-    def run_on(self, kind, *words):
+    def run_on(self, kind: Any, *words: Word) -> Tuple[str, str, str]:
         """What an importer tells, and the files that it makes by the ends of their names."""
         words = [self.word(word) for word in words]
         if kind is totals:
@@ -36,11 +37,11 @@ class Importing(Case):
         texts = [text for _, text in outputs]
         return summary.text(), texts[0], texts[1]
 
-    def told(self, kind, *words, **texts):
+    def told(self, kind: Any, *words: Word, **texts: str) -> str:
         self.files(**texts)
         return self.run_on(kind, *words)[0]
 
-    def refused(self, kind, *words, **texts):
+    def refused(self, kind: Any, *words: Word, **texts: str) -> str:
         self.files(**texts)
         with self.assertRaises(ToolError) as fault:
             self.run_on(kind, *words)

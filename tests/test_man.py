@@ -1,13 +1,15 @@
 """The pages of the manual: one for each tool, with the words of its help."""
 import os
+import pathlib
 import re
 import subprocess
+from typing import List
 
 from common import ROOT, Case, needs, tool
 
 
 class Man(Case):
-    def pages(self):
+    def pages(self) -> List[pathlib.Path]:
         self.made("dev/man.py", "--out", self.folder / "man")
         return sorted((self.folder / "man").iterdir())
 
@@ -47,7 +49,7 @@ class Man(Case):
         self.assertGreater(len(lines), 100)
         self.assertEqual([line for line in lines if len(line) > 80], [])
 
-    def shown(self, page):
+    def shown(self, page: pathlib.Path) -> str:
         """What `man` shows of a page at 80 columns."""
         done = subprocess.run(
             ["man", "--warnings", "-l", str(page)],

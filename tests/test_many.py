@@ -4,9 +4,9 @@ import json
 import os
 import pathlib
 import subprocess
-from typing import Any, Dict, List, Mapping, Tuple
+from typing import Any, Dict, List, Mapping, Set, Tuple
 
-from common import CHAIN, ROOT, Case, tool
+from common import CHAIN, ROOT, Case, Word, tool
 
 import clearing_client
 from clearing_client import limits
@@ -86,7 +86,7 @@ REFUSED = {
 
 
 class Many(Case):
-    def many(self, *words, program=PROGRAM):
+    def many(self, *words: Word, program: str = PROGRAM) -> "subprocess.CompletedProcess[str]":
         script = self.file("program", program)
         script.chmod(0o755)
         environment = {**os.environ, "CLEARING": str(script), "COUNTED": str(self.folder / "counted")}
@@ -95,7 +95,7 @@ class Many(Case):
             run, cwd=self.folder, env=environment, stdin=subprocess.DEVNULL, capture_output=True, encoding="utf-8"
         )
 
-    def runs(self):
+    def runs(self) -> int:
         return len((self.folder / "counted").read_text().splitlines())
 
     def test_one_job_is_run_once_and_kept(self):
@@ -199,51 +199,64 @@ class Many(Case):
         self.assertEqual((done.returncode, done.stdout, done.stderr), (0, "6 done, 0 failed\n", ""))
         self.assertFalse((self.folder / "counted").exists())
 
-    def test_the_wide_limits_are_taken_where_a_case_says_them_or_the_network_needs_them(self):
-        net, wide = clearing_client.Network({"A": 7}, {}), ["--limits=wide"]
-        for said in ("wide", "standard", None):
-            clearing_client.Case(net, limits=said).write(self.folder / f"says {said}")
+    def at_the_limits(self) -> List[Tuple[bytes, bytes]]:
+        """Banks files and debts files at the standard limits and beyond, in several forms; the last pair is none."""
         head, standard = b"debtor,creditor,class,claim\n", limits.LIMITS["standard"]
         banks = [b"name,cash,rule\n" + b"".join(b"N%d,1,order\n" % n for n in range(count)) for count in (1000, 1001)]
         debts = [head + b"A,B,1,0\n" * count for count in (20_000, 20_001)]
         owed = [head + b'A,B,1,9999999\r\n"B","A","1"," %d "\r\n,,,\r\n' % more for more in (1, 2)]
-        pairs = [
+        return [
             (banks[0], debts[0]), (banks[1], head), (banks[0], debts[1]), (banks[0], owed[0]), (banks[0], owed[1]),
             (banks[0].ljust(standard.bytes["banks"] + 1, b"\n"), head),
             (banks[0], head.ljust(standard.bytes["debts"] + 1, b"\n")),
             (banks[0].replace(b"\n", b"\r") + b",,\r" * 9, debts[0].replace(b"\n", b"\r\n") + b"\n" * 9),
             (b"\xff" * 99, b'"'),
         ]  # fmt: skip
-        lines, want, told = [], {}, set()
-        for at, pair in enumerate(pairs):
-            words = [f"--{what}={at}{what}.csv" for what in ("banks", "debts")]
-            for what, data in zip(("banks", "debts"), pair):
-                self.file(f"{at}{what}.csv", data)
-            passed = limits.beyond(*pair)
-            lines.append([f"n{at}", "clear", *words])
-            want[f"n{at}"] = ["clear", *words, *(wide if passed else [])]
-            if passed:
-                what = f"the network is read by the wide limits, as it has {passed}; --limits wide says so"
-                told.add(f"clearing-many: n{at}: {what}")
-        self.assertEqual((len(told), limits.beyond(*pairs[7])), (5, None))
-        # What a job says decides, and then its case.
-        large = ["--banks", "1banks.csv", "--debts", "1debts.csv"]
-        lines += [["said", "clear", *large, "--limits", "standard"], ["case", "clear", "--case=says standard", *large]]
-        want.update(said=["clear", *large, "--limits", "standard"], case=["clear", *large, *wide])
-        what = f"the network is read by the wide limits, as it has {limits.beyond(*pairs[1])}; --limits wide says so"
-        told.add(f"clearing-many: case: {what}")
-        for said, more in (("wide", wide), ("standard", []), ("None", [])):
-            lines.append([said, "defaults", "--case", f"says {said}"])
-            want[said] = ["defaults", *(f"--{what}=says {said}/{what}.csv" for what in ("banks", "debts")), *more]
+
+    def told_of(self, job: str, pair: Tuple[bytes, bytes]) -> str:
+        """What is told of a job whose network is beyond the standard limits."""
+        beyond = limits.beyond(*pair)
+        what = f"the network is read by the wide limits, as it has {beyond}; --limits wide says so"
+        return f"clearing-many: {job}: {what}"
+
+    def run_lines(self, lines: List[List[str]], told: Set[str], want: Dict[str, List[str]]) -> None:
+        """Runs jobs, of which this is told, and each of which gets these words; a second run has nothing to do."""
         jobs = self.file("jobs.tsv", "".join("\t".join(line) + "\n" for line in lines))
         done = self.many("run", jobs, "out", 4)
         self.assertEqual((done.returncode, done.stdout), (0, f"{len(lines)} done, 0 failed\n"))
         self.assertEqual(set(done.stderr.splitlines()), told)
         for name, words in want.items():
             self.assertEqual((self.folder / "out" / f"{name}.out").read_text().splitlines(), words)
+        self.assertEqual((self.many("run", jobs, "out").stderr, self.runs()), ("", len(lines)))
+
+    def test_the_wide_limits_are_taken_where_the_network_needs_them(self):
+        lines, want, told = [], {}, set()
+        for at, pair in enumerate(self.at_the_limits()):
+            words = [f"--{what}={at}{what}.csv" for what in ("banks", "debts")]
+            for what, data in zip(("banks", "debts"), pair):
+                self.file(f"{at}{what}.csv", data)
+            is_beyond = limits.beyond(*pair) is not None
+            lines.append([f"n{at}", "clear", *words])
+            want[f"n{at}"] = ["clear", *words, *(["--limits=wide"] if is_beyond else [])]
+            told |= {self.told_of(f"n{at}", pair)} if is_beyond else set()
+        self.assertEqual((len(told), limits.beyond(*self.at_the_limits()[7])), (5, None))
+        self.run_lines(lines, told, want)
         # The words that were added are among those beside the result, which stands.
         self.assertIn("word --limits=wide\n", (self.folder / "out/n1.job").read_text())
-        self.assertEqual((self.many("run", jobs, "out").stderr, self.runs()), ("", len(lines)))
+
+    def test_what_a_job_says_of_limits_decides_and_then_what_its_case_says(self):
+        net, wide, beyond = clearing_client.Network({"A": 7}, {}), ["--limits=wide"], self.at_the_limits()[1]
+        for said in ("wide", "standard", None):
+            clearing_client.Case(net, limits=said).write(self.folder / f"says {said}")
+        for what, data in zip(("banks", "debts"), beyond):
+            self.file(f"{what}.csv", data)
+        large = ["--banks", "banks.csv", "--debts", "debts.csv"]
+        lines = [["said", "clear", *large, "--limits", "standard"], ["case", "clear", "--case=says standard", *large]]
+        want = {"said": ["clear", *large, "--limits", "standard"], "case": ["clear", *large, *wide]}
+        for said, more in (("wide", wide), ("standard", []), ("None", [])):
+            lines.append([said, "defaults", "--case", f"says {said}"])
+            want[said] = ["defaults", *(f"--{what}=says {said}/{what}.csv" for what in ("banks", "debts")), *more]
+        self.run_lines(lines, {self.told_of("case", beyond)}, want)
 
     def test_all_jobs_are_run_side_by_side(self):
         jobs = self.file("jobs.tsv", "".join(f"job-{at}\tgen\t{at}\n" for at in range(30)) + "bad\tfail\t6\n")

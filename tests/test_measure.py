@@ -11,9 +11,10 @@ import re
 import shutil
 import subprocess
 import sys
+from typing import Any, List, Optional, Tuple
 from unittest import mock
 
-from common import PROGRAM, ROOT, Case, python_with
+from common import PROGRAM, ROOT, Case, Word, python_with
 
 sys.path.append(str(ROOT / "bench"))
 import inputs  # noqa: E402
@@ -43,14 +44,61 @@ case "$*" in
 esac
 exec "{program}" "$@"
 """
+# What the table of one unit to and fro has beside `clear` with cash.
+UNIT_TASKS = ["clear", "impact", "rescues", "breaking"]
+# What each of the two tables of tasks has beside `clear`.
+MANY_TASKS = ["check", "central", "replay", "defaults", "stress", "bounds", "rescue", "compress", "costs"]
+FURTHER_TASKS = ["breaking", "impact", "rescues", "outcomes", "cost-bounds"]
+# Words for bench/measure.py, and of the table that it prints: its title, its heads and the labels of its rows.
+TABLES = [
+    (
+        ["rules", "star"],
+        "by each rule",
+        ["order, ms", "equal", "losses", "jefferson", "webster", "adams"],
+        ["star, clear", "star, central"],
+    ),
+    (["workers", "chain"], "clear, by workers", ["central, ms", "1", "2", "4"], ["chain"]),
+    (["rounds", "ordinary"], "clear by one worker", ["reading, ms", "one round", "all rounds"], ["ordinary"]),
+    (
+        ["rounds", "unit", "fall"],
+        "a unit a round",
+        ["alone, ms", "at rest"],
+        ["100,000 rounds of clear", "9,000,000 rounds of bounds"],
+    ),
+    (
+        ["units", "beside-leak"],
+        "a unit to and fro",
+        ["with cash, ms", *UNIT_TASKS, *(f"MB, {task}" for task in UNIT_TASKS)],
+        ["beside-leak"],
+    ),
+    (
+        ["reading", "--other", PROGRAM, "chain", "full-commas"],
+        "bytes read or printed",
+        ["wc, ms", "cat", "program", "other", "MB, program", "MB, other"],
+        ["chain", "full-commas"],
+    ),
+    (
+        ["reading", "journal"],
+        "bytes read or printed",
+        ["wc, ms", "cat", "program", "MB, program"],
+        ["a journal, its payments printed", "a journal printed", "a journal replayed"],
+    ),
+    (
+        ["others", "ordinary"],
+        "the payments",
+        ["clearing, ms", "fictitious", "iteration", "graph", "far, units"],
+        ["ordinary"],
+    ),
+]
 
 
-def cells(line):
+def cells(line: str) -> List[str]:
+    """The cells of a line of a table, which at least two blanks part."""
     return re.split(r"\s{2,}", line.strip())
 
 
 class Measure(Case):
-    def run_of(self, *words, program=None, **more):
+    def run_of(self, *words: str, program: Optional[str] = None, **more: Any) -> Tuple[int, List[str], str]:
         environment = {
             **os.environ,
             "CLEARING": program or os.path.realpath(PROGRAM),
@@ -66,12 +114,12 @@ class Measure(Case):
         )
         return done.returncode, done.stdout.splitlines(), done.stderr
 
-    def odd(self, words, other):
+    def odd(self, words: str, other: str) -> str:
         path = self.file("odd", ODD.format(program=os.path.realpath(PROGRAM), words=words, other=other))
         path.chmod(0o755)
         return str(path)
 
-    def table(self, lines, title, heads, labels):
+    def table(self, lines: List[str], title: str, heads: List[str], labels: List[str]) -> None:
         """Some lines are a table: its heads, and rows with milliseconds and then ratios."""
         self.assertEqual(cells(lines[0]), [title, *heads])
         self.assertEqual([cells(line)[0] for line in lines[1:]], labels)
@@ -82,78 +130,29 @@ class Measure(Case):
                 if not head.startswith(("MB", "same", "far")) and cell != "-":
                     self.assertRegex(cell, r"^[0-9]+\.[0-9][0-9]$")
 
-    def test_each_table_has_milliseconds_of_one_and_ratios_to_it(self):
-        ratios = ["check", "central", "replay", "defaults", "stress", "bounds", "rescue", "compress", "costs"]
-        further = ["breaking", "impact", "rescues", "outcomes", "cost-bounds"]
+    def test_both_tables_of_tasks_have_milliseconds_of_one_task_and_ratios_to_it(self):
         for words, first, second in (
-            (["tasks", "chain", "linked-1"], ["clear, ms", *ratios], ["clear, ms", *further]),
+            (["tasks"], ["clear, ms", *MANY_TASKS], ["clear, ms", *FURTHER_TASKS]),
             (
-                ["tasks", "--beside", "check", "chain", "linked-1"],
-                ["check, ms", "clear", *ratios[1:]],
-                ["check, ms", "clear", *further],
+                ["tasks", "--beside", "check"],
+                ["check, ms", "clear", *MANY_TASKS[1:]],
+                ["check, ms", "clear", *FURTHER_TASKS],
             ),
             (
-                ["tasks", "--beside", "impact", "chain", "linked-1"],
-                ["impact, ms", "clear", *ratios],
-                ["impact, ms", "clear", "breaking", *further[2:]],
+                ["tasks", "--beside", "impact"],
+                ["impact, ms", "clear", *MANY_TASKS],
+                ["impact, ms", "clear", "breaking", *FURTHER_TASKS[2:]],
             ),
         ):
             with self.subTest(words=words):
-                status, lines, told = self.run_of(*words)
+                status, lines, told = self.run_of(*words, "chain", "linked-1")
                 self.assertEqual(status, 0, told)
                 self.table(lines[:3], "every task", first, ["chain", "linked-1"])
                 self.table(lines[3:], "and these", second, ["chain", "linked-1"])
                 self.assertLessEqual(max(map(len, lines)), 136 if "impact" in words else 132)
-        for words, title, heads, labels in (
-            (
-                ["rules", "star"],
-                "by each rule",
-                ["order, ms", "equal", "losses", "jefferson", "webster", "adams"],
-                ["star, clear", "star, central"],
-            ),
-            (["workers", "chain"], "clear, by workers", ["central, ms", "1", "2", "4"], ["chain"]),
-            (["rounds", "ordinary"], "clear by one worker", ["reading, ms", "one round", "all rounds"], ["ordinary"]),
-            (
-                ["rounds", "unit", "fall"],
-                "a unit a round",
-                ["alone, ms", "at rest"],
-                ["100,000 rounds of clear", "9,000,000 rounds of bounds"],
-            ),
-            (
-                ["units", "beside-leak"],
-                "a unit to and fro",
-                [
-                    "with cash, ms",
-                    "clear",
-                    "impact",
-                    "rescues",
-                    "breaking",
-                    "MB, clear",
-                    "MB, impact",
-                    "MB, rescues",
-                    "MB, breaking",
-                ],
-                ["beside-leak"],
-            ),
-            (
-                ["reading", "--other", PROGRAM, "chain", "full-commas"],
-                "bytes read or printed",
-                ["wc, ms", "cat", "program", "other", "MB, program", "MB, other"],
-                ["chain", "full-commas"],
-            ),
-            (
-                ["reading", "journal"],
-                "bytes read or printed",
-                ["wc, ms", "cat", "program", "MB, program"],
-                ["a journal, its payments printed", "a journal printed", "a journal replayed"],
-            ),
-            (
-                ["others", "ordinary"],
-                "the payments",
-                ["clearing, ms", "fictitious", "iteration", "graph", "far, units"],
-                ["ordinary"],
-            ),
-        ):
+
+    def test_each_other_table_has_milliseconds_of_one_and_ratios_to_it(self):
+        for words, title, heads, labels in TABLES:
             with self.subTest(words=words):
                 status, lines, told = self.run_of(*words)
                 self.assertEqual(status, 0, told)
@@ -202,7 +201,7 @@ class Measure(Case):
         self.assertEqual(cells(lines[1])[3], "-")
         self.assertRegex(cells(lines[1])[2], r"^[0-9.]+$")
 
-    def speed(self, *words, program=None):
+    def speed(self, *words: Word, program: Optional[str] = None) -> "subprocess.CompletedProcess[str]":
         environment = {**os.environ, "CLEARING": program or os.path.realpath(PROGRAM)}
         run = [str(ROOT / "bench/speed.py"), "--runs", "1", *map(str, words)]
         return subprocess.run(run, env=environment, stdin=subprocess.DEVNULL, capture_output=True, encoding="utf-8")
@@ -252,29 +251,23 @@ class Measure(Case):
         self.assertIsNone(timing.until_it_prints(["/bin/sleep", "600"], 0.5))
         self.assertRaisesRegex(timing.Fault, "nothing is printed", timing.until_it_prints, ["/bin/true"], 300)
 
-    def test_tables_of_the_wide_limits_have_each_network_and_task(self):
-        """With small networks of the same names, since those have a million debts."""
+    def wide_tables(self, *tables: str) -> List[List[str]]:
+        """The lines of the tables of the wide limits, with small networks of the same names, since those have a million
+        debts."""
         small = {
             name: functools.partial(wide_networks.spread, 12, 4, lambda bank: bank, name.rpartition("-")[2])
             for name in inputs.WIDE
         }
-        options = argparse.Namespace(inputs=["tasks", "stress", "many", "workers"], runs=1, limit=60, beside=None)
+        options = argparse.Namespace(inputs=tables, runs=1, limit=60, beside=None)
         self.addCleanup(os.chdir, os.getcwd())
         os.chdir(self.folder)
-        told, took = io.StringIO(), {"1": 3.0, "4": 2.0, "64": 5.5}
-
-        def seconds(words, *_):
-            """What a run that reads takes, and one that clears and shows the journal."""
-            if words[1] == "convert":
-                return 1.0
-            self.assertEqual(words[words.index("--show") + 1], "journal")
-            return took[words[words.index("--workers") + 1]]
-
+        told = io.StringIO()
         with mock.patch.dict(inputs.WIDE, small), contextlib.redirect_stdout(told):
-            with mock.patch.object(timing, "until_it_prints", seconds):
-                measure.wide(measure.Program(os.path.realpath(PROGRAM)), options)
-        parts = re.split(r"(?<=\n)(?=stress|4,500|clear less)", told.getvalue())
-        tasks, stress, many, workers = [part.splitlines() for part in parts]
+            measure.wide(measure.Program(os.path.realpath(PROGRAM)), options)
+        return [part.splitlines() for part in re.split(r"(?<=\n)(?=stress|4,500|clear less)", told.getvalue())]
+
+    def test_tables_of_the_wide_limits_have_each_network_and_task(self):
+        tasks, stress, many = self.wide_tables("tasks", "stress", "many")
         columns = ["defaults", "bounds", "rescue", "costs", "cost-bounds", "compress"]
         held = [f"MB, {task}" for task in ["clear", *columns]]
         self.table(
@@ -297,14 +290,27 @@ class Measure(Case):
             ["clear, ms", *columns, *held],
             ["wide-tiered-order", "wide-tiered-mixed"],
         )
+
+    def test_what_reading_takes_is_taken_off_before_workers_are_compared(self):
+        took = {"1": 3.0, "4": 2.0, "64": 5.5}
+
+        def seconds(words: List[str], *_: object) -> float:
+            """What a run that reads takes, and one that clears and shows the journal."""
+            if words[1] == "convert":
+                return 1.0
+            self.assertEqual(words[words.index("--show") + 1], "journal")
+            return took[words[words.index("--workers") + 1]]
+
+        with mock.patch.object(timing, "until_it_prints", seconds):
+            (workers,) = self.wide_tables("workers")
         heads = ["clear less reading and printing", "1 worker, ms", "4 workers", "64 workers", "reading, ms"]
         self.assertEqual(cells(workers[0]), heads)
-        # What reading takes is taken off before the others are told in times of one worker.
+        # The others are told in times of one worker.
         names = ["wide-dense-order", "wide-dense-webster", "wide-scarce-order", "wide-complete-order"]
         rows = [[name, "2000.0", "0.50", "2.25", "1000.0"] for name in names]
         self.assertEqual([cells(line) for line in workers[1:]], rows)
 
-    def scale(self, *words, python=sys.executable):
+    def scale(self, *words: Word, python: str = sys.executable) -> "subprocess.CompletedProcess[str]":
         environment = {**os.environ, "CLEARING": os.path.realpath(PROGRAM)}
         run = [python, "-B", ROOT / "bench/scale.py", "--runs", "1", *words]
         return subprocess.run(run, env=environment, stdin=subprocess.DEVNULL, capture_output=True, encoding="utf-8")

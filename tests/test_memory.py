@@ -8,6 +8,7 @@ import functools
 import shutil
 import subprocess
 import unittest
+from typing import Any
 
 from common import ROOT, Case
 
@@ -21,7 +22,7 @@ SAID = "the first visit found no memory"
 
 
 @functools.cache
-def outcome(number):
+def outcome(number: int) -> Any:
     """How the test ends where the allocation of this number is refused: "visit" where the first visit met that,
     "memory" where the test itself did, "ok" where none before did, and "failed"."""
     done = subprocess.run(

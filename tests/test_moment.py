@@ -1,7 +1,9 @@
 """The moment at which something is made is that of SOURCE_DATE_EPOCH, where this has something in it, for all alike."""
 import datetime
 import os
+import pathlib
 import subprocess
+from typing import Any
 from unittest import mock
 
 from common import CHAIN, PACKAGES, Case, files_of, needs_modules, python_with, run_of, tool
@@ -13,7 +15,7 @@ WRONG = ["x", "-1", "1.5", " 1", "1 ", "1e3", "²", "9" * 12]
 
 
 class Moment(Case):
-    def at(self, moment):
+    def at(self, moment: str) -> Any:
         """Has the environment say a moment, for a block."""
         return mock.patch.dict(os.environ, {"SOURCE_DATE_EPOCH": moment})
 
@@ -37,7 +39,7 @@ class Moment(Case):
                 cc.Case(cc.Network({"A": 1}, {})).write(self.folder / "none")
         self.assertFalse((self.folder / "none").exists())
 
-    def case(self):
+    def case(self) -> pathlib.Path:
         """A case of two files alone."""
         place = self.folder / "case"
         place.mkdir(exist_ok=True)

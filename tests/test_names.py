@@ -6,10 +6,13 @@ somewhere in the repository.
 
 `python3 test_names.py --list` prints the names of code that each page cites.
 """
+import collections
 import functools
+import pathlib
 import re
 import sys
 import unittest
+from typing import Any, Callable, Iterable, Iterator, List, Set, Tuple
 
 from common import ROOT, tool
 
@@ -55,25 +58,30 @@ FOLDERS = ("bench", "bin", "crates", "docs", "examples", "python", "tests", "too
 EMPTY_NAMES = {"few", "one", "others", "same", "some"}
 
 
-def documents():
+def documents() -> List[pathlib.Path]:
     return [
         path
-        for path in [*sorted(ROOT.glob("*.md")), *sorted((ROOT / "docs").glob("*.md")), ROOT / "examples/README.md"]
+        for path in [
+            *sorted(ROOT.glob("*.md")),
+            *sorted((ROOT / "docs").glob("*.md")),
+            ROOT / "examples/README.md",
+            ROOT / "tests/README.md",
+        ]
         if path.is_file()
     ]
 
 
-def prose_of(text):
+def prose_of(text: str) -> str:
     """A document without its blocks of code."""
     return FENCED.sub("", text)
 
 
-def words_in(paths):
+def words_in(paths: Iterable[pathlib.Path]) -> Set[str]:
     return {word for path in paths for word in WORD.findall(path.read_text(encoding="utf-8", errors="replace"))}
 
 
 @functools.cache
-def words_of(crate):
+def words_of(crate: str) -> Set[str]:
     """All words of a crate: its sources, definitions and proofs, and the names of its files and edits."""
     folder = ROOT / "crates" / crate
     files = [
@@ -91,7 +99,7 @@ def words_of(crate):
 
 
 @functools.cache
-def all_words():
+def all_words() -> Set[str]:
     scripts = [
         path
         for folder in ("tools", "bin", "bench", "tests", "python", "examples", "r")
@@ -103,14 +111,14 @@ def all_words():
 
 
 @functools.cache
-def laws_of(crate):
+def laws_of(crate: str) -> Set[str]:
     path = ROOT / "crates" / crate / "src/laws.rt"
     return (
         set(re.findall(r"^pub fn (\w+)", path.read_text(encoding="utf-8"), re.MULTILINE)) if path.is_file() else set()
     )
 
 
-def anchors_of(path):
+def anchors_of(path: pathlib.Path) -> Set[str]:
     """The anchors of a page: those that GitHub makes of its headings, and those that it names."""
     text = path.read_text(encoding="utf-8")
     heads = re.findall(r"^#+ (.*)$", prose_of(text), re.MULTILINE)
@@ -119,18 +127,18 @@ def anchors_of(path):
     )
 
 
-def is_name(token):
+def is_name(token: str) -> bool:
     """Whether a word in back quotes can only be a name of code: it has an underscore, or a capital within."""
-    return re.fullmatch(WORD, token) and ("_" in token.strip("_") or re.search(r"[a-z][A-Z]", token))
+    return bool(re.fullmatch(WORD, token)) and ("_" in token.strip("_") or bool(re.search(r"[a-z][A-Z]", token)))
 
 
-def cited_names(text):
+def cited_names(text: str) -> List[str]:
     """The names of code that a text cites, each once."""
     tokens = QUOTED.findall(prose_of(text))
     return sorted({token for token in tokens if is_name(token) or re.fullmatch(r"\w+(::\w+)+", token)})
 
 
-def missing_names(text):
+def missing_names(text: str) -> List[str]:
     """The names of code in a text that are nowhere to be found."""
     lost = []
     for token in QUOTED.findall(prose_of(text)):
@@ -159,7 +167,7 @@ def missing_names(text):
     return lost
 
 
-def missing_in_files(text):
+def missing_in_files(text: str) -> List[str]:
     """The names that stand after a file of a crate, and are not in it."""
     lost, file = [], None
     for passage in re.findall(r"\*In the code: (.*?)\*\n", text, re.DOTALL):
@@ -175,7 +183,7 @@ def missing_in_files(text):
     return lost
 
 
-def missing_paths(path, text):
+def missing_paths(path: pathlib.Path, text: str) -> List[str]:
     """The links and paths of a page that lead nowhere."""
     lost = []
     for target in re.findall(r"\]\(([^)\s]+)\)", prose_of(text)):
@@ -196,7 +204,7 @@ def missing_paths(path, text):
     return lost
 
 
-def commands_of(text):
+def commands_of(text: str) -> Iterator[str]:
     """The commands of the blocks of a page."""
     for language, block in FENCED.findall(text):
         lines = block.replace("\\\n", " ").split("\n")
@@ -213,7 +221,7 @@ def commands_of(text):
 
 
 @functools.cache
-def options_in(file, task=""):
+def options_in(file: pathlib.Path, task: str = "") -> str:
     """A text with the options of a tool: its help, and that of a task of it, where it is a command, else what it is."""
     if file.parent != ROOT / "bin":
         return file.read_text(encoding="utf-8") if file.is_file() else ""
@@ -221,7 +229,7 @@ def options_in(file, task=""):
     return "".join(helps)
 
 
-def named_edits(text):
+def named_edits(text: str) -> Iterator[Tuple[str, str, bool]]:
     """The wrong bodies that the tables of a page name: each with its crate, and whether it has the sign of those beside
     the gate. A name without a crate before it is of clear_top."""
     table_of_edits = r"^\|.* a wrong body that the check must refuse \|\n\|[-|]+\n((?:\|.*\n)+)"
@@ -235,7 +243,7 @@ def named_edits(text):
                     yield crate, name, sign == "°"
 
 
-def wrong_edits(text):
+def wrong_edits(text: str) -> List[str]:
     """The wrong bodies that a page's tables name, and that do not stand where they say."""
     return [
         f"{crate}: {name}"
@@ -244,7 +252,7 @@ def wrong_edits(text):
     ]
 
 
-def definitions_below(*paths):
+def definitions_below(*paths: pathlib.Path) -> Set[pathlib.Path]:
     """The files of definitions that some files cite, with these."""
     found, ahead = set(), list(paths)
     while ahead:
@@ -257,13 +265,13 @@ def definitions_below(*paths):
     return found
 
 
-def theorem_of(text):
+def theorem_of(text: str) -> str:
     """The theorem as a page quotes it, in one line and without the signs of its form."""
     quoted = re.search(r"(?:^>.*\n)+", text, re.MULTILINE)[0]
     return " ".join(re.sub(r"^> ?|\*\*", "", quoted, flags=re.MULTILINE).split())
 
 
-def wrong_commands(text):
+def wrong_commands(text: str) -> List[str]:
     """The commands that begin with no program, and the options of the repository's tools that the tools do not have."""
     lost = []
     for command in commands_of(text):
@@ -278,7 +286,7 @@ def wrong_commands(text):
     return lost
 
 
-def public_clauses(text):
+def public_clauses(text: str) -> Iterator[Tuple[str, str]]:
     """The named clauses of the functions of a source that others call: of public functions, of traits, and of what
     implements these; each as its function and its name."""
     function, shared, public = "", False, False
@@ -291,8 +299,24 @@ def public_clauses(text):
             yield function, clause[1]
 
 
+def miscounted(names: List[str], text: str) -> List[str]:
+    """The names that a text does not have in back quotes once."""
+    count = collections.Counter(QUOTED.findall(text))
+    return sorted(name for name in names if count[name] != 1)
+
+
+def unknown_modules(text: str) -> List[str]:
+    """The modules of tests that a text names and that are not there."""
+    return [name for name in QUOTED.findall(text) if re.fullmatch(r"test_\w+", name) and not is_module(name)]
+
+
+def is_module(name: str) -> bool:
+    """Whether a module of tests has a name."""
+    return (ROOT / "tests" / f"{name}.py").is_file()
+
+
 class Names(unittest.TestCase):
-    def each(self, what):
+    def each(self, what: Callable[[pathlib.Path, str], List[Any]]) -> None:
         for path in documents():
             with self.subTest(page=str(path.relative_to(ROOT))):
                 self.assertEqual(what(path, path.read_text(encoding="utf-8")), [])
@@ -341,6 +365,15 @@ class Names(unittest.TestCase):
             missing_paths(ROOT / "README.md", "[a](docs/GLOSSARY.md#one-unit) [b](docs/GLOSSARY.md#two-units)"),
             ["docs/GLOSSARY.md#two-units"],
         )
+
+    def test_the_page_of_the_tests_names_each_module_and_script_once(self):
+        modules = [path.stem for path in (ROOT / "tests").glob("*.py") if path.name not in ("run.py", "wheel.py")]
+        scripts = [path.name for path in (ROOT / "tests/system").iterdir() if path.suffix in (".py", ".sh", ".c")]
+        text = (ROOT / "tests/README.md").read_text(encoding="utf-8")
+        self.assertEqual(miscounted([*modules, *scripts], text), [])
+        self.assertEqual(miscounted(["a", "b", "c"], "`a` and `b`, but `b` alone"), ["b", "c"])
+        self.assertEqual(unknown_modules(text), [])
+        self.assertEqual(unknown_modules("`test_names` and `test_nobody`"), ["test_nobody"])
 
     def test_the_laws_that_are_tried_at_networks_are_counted(self):
         laws = sum(

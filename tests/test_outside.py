@@ -8,8 +8,9 @@ import shutil
 import subprocess
 import threading
 import unittest
+from typing import Any, Callable, Iterator, List, Tuple
 
-from common import PROGRAM, TWELVE, Case, files_of
+from common import PROGRAM, TWELVE, Case, Word, files_of
 
 BANKS = "name,cash,rule\nA,7,order\nB,1,order\nC,0,order\n"
 DEBTS = "debtor,creditor,class,claim\nA,B,1,10\nB,C,1,9\n"
@@ -25,7 +26,7 @@ MEMORY = "clearing: out of memory\n"
 SECONDS = 20
 
 
-def memory_of(kilobytes):
+def memory_of(kilobytes: int) -> Callable[[], None]:
     """What limits a run to so much memory."""
     return lambda: resource.setrlimit(resource.RLIMIT_AS, (kilobytes * 1024, kilobytes * 1024))
 
@@ -36,7 +37,7 @@ class Outside(Case):
         self.files = ["--banks", self.file("banks.csv", BANKS), "--debts", self.file("debts.csv", DEBTS)]
         self.thirds = {task: [f"--{name}", self.file(name, text)] for task, (name, text) in THIRDS.items()}
 
-    def run_on(self, *words, **how):
+    def run_on(self, *words: Word, **how: Any) -> Tuple[int, bytes, bytes]:
         """A run of the program: its status, what it writes and what it tells."""
         how = {"stdin": subprocess.DEVNULL, "timeout": SECONDS, "cwd": self.folder, **how}
         done = subprocess.run(
@@ -44,7 +45,7 @@ class Outside(Case):
         )
         return done.returncode, done.stdout, done.stderr
 
-    def tasks(self):
+    def tasks(self) -> Iterator[Any]:
         """Each task that reads files: its words, and the paths of its files."""
         more = {
             "costs": ["--keep", "500"],
@@ -150,7 +151,7 @@ class Outside(Case):
                     os.close(read)
                     os.close(write)
 
-    def traced(self, *words):
+    def traced(self, *words: Word) -> Tuple[int, List[str]]:
         """The calls of a run that name a file, without the numbers that they answer."""
         log = self.file("calls")
         done = subprocess.run(

@@ -1,11 +1,13 @@
 """The pictures: what they show is what the program says, to be read in grey print and by the colour-blind as well."""
+import pathlib
 import re
 import shutil
 import subprocess
 import sys
 import xml.etree.ElementTree as tree
+from typing import Any, List, Tuple
 
-from common import PROGRAM, ROOT, Case, clearing, files_of, needs_modules, python_with, run_of, tool
+from common import PROGRAM, ROOT, Case, Word, clearing, files_of, needs_modules, python_with, run_of, tool
 from odd_names import ODD_NAMES
 
 from clearing_tools.drawing import lettering  # noqa: E402
@@ -20,29 +22,29 @@ TWELVE = files_of(ROOT / "examples/twelve-banks")
 SVG = "{http://www.w3.org/2000/svg}"
 
 
-def kind(element, word):
+def kind(element: Any, word: str) -> bool:
     return word in (element.get("class") or "").split()
 
 
-def titles(svg):
+def titles(svg: str) -> List[str]:
     return [title.text for title in tree.fromstring(svg).iter(f"{SVG}title")]
 
 
-def texts(svg):
+def texts(svg: str) -> List[str]:
     return [text.text for text in tree.fromstring(svg).iter(f"{SVG}text")]
 
 
 class Pictures(Case):
-    def text(self, name, task, files, *more):
+    def text(self, name: str, task: str, files: Any, *more: Word) -> pathlib.Path:
         return self.file(name, clearing(task, *files, *more).stdout)
 
-    def both(self, files):
+    def both(self, files: Any) -> Tuple[pathlib.Path, pathlib.Path]:
         return self.text("p.csv", "clear", files), self.text("d.csv", "defaults", files)
 
-    def drawn(self, files, *more):
+    def drawn(self, files: Any, *more: Word) -> str:
         return self.made("clearing-who-pays", *self.both(files), *more)
 
-    def alone_outside(self):
+    def alone_outside(self) -> List[Word]:
         """Three banks: A defaults on what it owes outside alone, B owes nobody, C pays all."""
         banks = self.file("banks.csv", "name,cash,rule,outside\nA,3,order,9\nB,10,webster,0\nC,50,equal,5\n")
         debts = self.file("debts.csv", "debtor,creditor,class,claim\nC,B,1,4\n")
@@ -245,7 +247,7 @@ class Network(Pictures):
 
 @needs_modules("matplotlib")
 class Charts(Pictures):
-    def chart(self, name, *words):
+    def chart(self, name: str, *words: Word) -> List[str]:
         """The words of a chart, which stand in its file as comments beside the outlines of their letters."""
         out = self.folder / "picture.svg"
         done = tool(name, *words[:1], out, *words[1:], python=python_with("matplotlib"))

@@ -3,6 +3,7 @@ its calls."""
 import os
 import shutil
 import subprocess
+from typing import List
 
 from common import ROOT, Case
 
@@ -29,7 +30,7 @@ class Quick(Case):
         (self.root / "crates/low/must-fail/wrong.edit").write_text("")
         (self.root / "crates/middle/src/lib.rt").write_text("#[test]\nfn shows() {}\n")
 
-    def run_with(self, *words, faulty="none", path=True):
+    def run_with(self, *words: str, faulty: str = "none", path: bool = True) -> "subprocess.CompletedProcess[str]":
         self.calls = self.file("calls", "")
         environment = {
             **os.environ,
@@ -45,7 +46,7 @@ class Quick(Case):
             encoding="utf-8",
         )
 
-    def called(self):
+    def called(self) -> List[str]:
         return self.calls.read_text().splitlines()
 
     def test_a_crate_and_what_stands_on_it_are_checked_lowest_first(self):

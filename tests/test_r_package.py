@@ -9,8 +9,9 @@ import subprocess
 import tarfile
 import tempfile
 import unittest
+from typing import Any, List
 
-from common import PROGRAM, ROOT, Case, needs
+from common import PROGRAM, ROOT, Case, Word, needs
 
 from clearing_client import Case as BankCase
 from clearing_client import Network, Source
@@ -35,14 +36,14 @@ def built() -> tempfile.TemporaryDirectory:
     return place
 
 
-def archive():
+def archive() -> pathlib.Path:
     """The archive that R makes of the package."""
     (found,) = pathlib.Path(built().name).glob("clearing_*.tar.gz")
     return found
 
 
 @functools.cache
-def has(package):
+def has(package: str) -> bool:
     """Whether R has a package."""
     return not subprocess.run(["Rscript", "-e", f"library({package})"], capture_output=True).returncode
 
@@ -51,12 +52,12 @@ def has(package):
 TESTS = sorted((PACKAGE / "tests").glob("*.R"))
 
 
-def named(script):
+def named(script: pathlib.Path) -> List[str]:
     """The names of the tests in a script."""
     return re.findall(r'(?m)^test(?:_with_program)?\("(.*?)"', script.read_text(encoding="utf-8"))
 
 
-def passed(printed):
+def passed(printed: str) -> List[str]:
     """The names of the tests that passed."""
     return re.findall("(?m)^passed: (.*)$", printed)
 
@@ -65,7 +66,7 @@ def passed(printed):
 ALONE = {"_R_CHECK_CRAN_INCOMING_": "false", "_R_CHECK_SYSTEM_CLOCK_": "false"}
 
 
-def ran(*words, folder=None, libraries="", **more):
+def ran(*words: Word, folder: Any = None, libraries: str = "", **more: Any) -> str:
     """A run of R that ends well, with what it printed."""
     environment = {
         **os.environ,
@@ -91,12 +92,12 @@ def ran(*words, folder=None, libraries="", **more):
 
 @unittest.skipUnless(shutil.which("R"), "without R (Debian's package r-base-core)")
 class Package(Case):
-    def r(self, code):
+    def r(self, code: str) -> str:
         """What a few lines of R print, with the package loaded."""
         script = self.file("script.R", f"library(clearing)\n{code}\n")
         return ran("Rscript", script, folder=self.folder, libraries=library().name)
 
-    def has_knitr(self):
+    def has_knitr(self) -> None:
         """Skips a test of the vignette where R has not what makes it."""
         if not has("knitr"):
             self.skipTest("R has no knitr (Debian's package r-cran-knitr)")

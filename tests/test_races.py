@@ -3,8 +3,9 @@ that lies."""
 import os
 import re
 import subprocess
+from typing import List, Tuple
 
-from common import PROGRAM, ROOT, Case, needs
+from common import PROGRAM, ROOT, Case, Word, needs
 
 # A program that changes what it prints where it is asked for the payments and the journal.
 LIAR = """#!/bin/sh
@@ -25,7 +26,7 @@ exec "{program}" "$@"
 
 @needs("cc")
 class Races(Case):
-    def races(self, program, runs):
+    def races(self, program: Word, runs: int) -> Tuple[int, List[str]]:
         environment = {
             **os.environ,
             "CLEARING": str(program),

@@ -7,8 +7,9 @@ import shutil
 import signal
 import subprocess
 import time
+from typing import List, Optional, Tuple
 
-from common import PROGRAM, ROOT, Case, needs
+from common import PROGRAM, ROOT, Case, Word, needs
 
 HEADER = "date\tcommit\tprogram\tscript\targuments\tcases\twrong"
 # A program that changes the payments.
@@ -34,7 +35,7 @@ class Records(Case):
         self.git("commit", "--quiet", "--message", "x")
         self.program = os.path.realpath(PROGRAM)
 
-    def git(self, *words):
+    def git(self, *words: str) -> str:
         done = subprocess.run(
             ["git", "-c", "user.name=a", "-c", "user.email=a@b", *words],
             cwd=self.root,
@@ -45,7 +46,7 @@ class Records(Case):
         )
         return done.stdout.strip()
 
-    def started(self, script, *words, program=None):
+    def started(self, script: str, *words: str, program: Optional[Word] = None) -> "subprocess.Popen[str]":
         environment = {
             **os.environ,
             "CLEARING": program or self.program,
@@ -62,13 +63,13 @@ class Records(Case):
             start_new_session=True,
         )
 
-    def ran(self, script, *words, program=None):
+    def ran(self, script: str, *words: str, program: Optional[Word] = None) -> Tuple[int, str]:
         """The status and the last line of a script."""
         process = self.started(script, *words, program=program)
         text = process.communicate()[0]
         return process.returncode, text.splitlines()[-1]
 
-    def rows(self):
+    def rows(self) -> List[List[str]]:
         lines = self.runs.read_text(encoding="utf-8").splitlines()
         self.assertEqual(lines[0], HEADER)
         return [line.split("\t") for line in lines[1:]]

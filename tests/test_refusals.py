@@ -1,31 +1,15 @@
-"""Each refusal of the program, by file, kind and row, as docs/FORMATS.md gives it: the status, the whole message, and
-no output. Each fault of a record stands in an early row and in late ones, and behind few good records and many, since
-a row's number and what stands before it must change nothing else."""
+"""Each refusal of a file by the program, by file, kind and row, as docs/FORMATS.md gives it: the status, the whole
+message, and no output. Each fault of a record stands in an early row and in late ones, and behind few good records and
+many, since a row's number and what stands before it must change nothing else."""
 import concurrent.futures
-import pathlib
-import re
 import subprocess
-import unittest
-from typing import Iterable, Iterator, List, Sequence, Tuple, Union
+from typing import Any, Iterable, Iterator, List, Tuple, Union
 
-from common import PROGRAM, ROOT, Case
+from common import PROGRAM
+from refusals import FEW_BANKS, FEW_DEBTS, HEADERS, LARGEST, MANY_BANKS, MANY_DEBTS, NUMBERS, RefusalCase, joined, one
 
-# The words of a command line, which may be no text.
-Words = Sequence[Union[str, bytes]]
-FORMATS = (ROOT / "docs/FORMATS.md").read_text()
-TABLE = FORMATS.partition("| number | kind |")[2].partition("\n\n")[0]
-NUMBERS = {kind: int(number) for number, kind in re.findall(r"^\| ([0-9]+) \| ([a-z ]+) \|", TABLE, re.M)}
-USAGE = (2, "clearing: the command line is not understood\n")
-LARGEST = 8_388_608
 # How many blank records stand before the others of a file.
 BLANKS = [0, 3, 1_100, 60_500]
-
-# The records of a small network, and of one of 20 banks and 100 debts.
-FEW_BANKS = ["A,7,order", "B,1,equal", f"{'n' * 64},3,adams", f"{'😀' * 16},3,losses"]
-FEW_DEBTS = ["A,B,1,10", f"{'n' * 64},A,9,5"]
-MANY_BANKS = [*FEW_BANKS, *(f"G{i},{i},webster" for i in range(16))]
-MANY_DEBTS = [*FEW_DEBTS, *(f"G{i},G{(i + c) % 16},{c},{i}" for c in range(1, 8) for i in range(16))][:100]
-
 # A thousand good records of each file.
 GOOD = {
     "banks": [bank.encode() for bank in [*FEW_BANKS, *(f"G{i},{i},webster" for i in range(996))]],
@@ -35,7 +19,6 @@ GOOD = {
     ],
     "journal": [b"1,A,B,1,1"] * 1000,
 }
-
 NAMES = {
     "name": ["x" * 65, "é" * 33, "😀" * 17, "x" * 300, b"\xff", b"x" * 64 + b"\xc3", "a\x07", '"a,b"', '"a""b"'],
     "unknown bank": ["Z", "a", "x" * 63, "y" * 64, "é" * 32, "😁" * 16],
@@ -46,11 +29,7 @@ NUMERALS = {
 }
 
 
-def joined(*parts):
-    return b"".join(part if isinstance(part, bytes) else part.encode() for part in parts)
-
-
-def bank_faults(second):
+def bank_faults(second: bool) -> Iterator[Any]:
     """The kind of a fault, and a record that has it, below banks A, B and one with a long name."""
     more = ",0" if second else ""
     yield from (
@@ -85,7 +64,7 @@ def bank_faults(second):
         yield ("rule", "C,1,x,x")
 
 
-def debt_faults():
+def debt_faults() -> Iterator[Any]:
     yield from (("fields", text) for text in ["A,B,2", "A", "A,B,2,1,1", "A" + ",x" * 70])
     for kind, names in NAMES.items():
         yield from ((kind, joined(name, ",A,2,1")) for name in names)
@@ -105,7 +84,7 @@ def debt_faults():
     ]
 
 
-def raise_faults():
+def raise_faults() -> Iterator[Any]:
     yield from (
         ("fields", text)
         for text in ["2,A,B,1", "2", "2,A,B,1,1,1", "2" + ",x" * 70, "rounds,x", "rounds,1,1", "Rounds,1"]
@@ -130,14 +109,7 @@ def raise_faults():
     ]
 
 
-HEADERS = {
-    "banks": "name,cash,rule",
-    "debts": "debtor,creditor,class,claim",
-    "journal": "stamp,debtor,creditor,class,to",
-}
-
-
-def header_faults(words):
+def header_faults(words: str) -> Iterator[Any]:
     yield from [
         "",
         "\n\n",
@@ -156,10 +128,6 @@ def header_faults(words):
         b"\xff\xfe",
         words.replace(",", ",,"),
     ]
-
-
-def one(name, *rest):
-    return f"[[scenario]]\nname = {name}\n" + "".join(f"{text}\n" for text in rest)
 
 
 def loss(bank: str, amount: Union[int, str]) -> str:
@@ -226,7 +194,7 @@ def scenario_faults() -> Iterator[Tuple[str, str]]:
     ]
 
 
-def documents():
+def documents() -> Iterator[Any]:
     """The kind of a fault of a whole document, and the document."""
     for text in [
         "scenario",
@@ -263,154 +231,6 @@ def documents():
         yield "shape", text
 
 
-# The options that each task requires, and one of each name, with a value that may stand there.
-BANKS, DEBTS, KEEP = ["--banks", "b"], ["--debts", "d"], ["--keep", "1"]
-REQUIRED = {
-    "check": [BANKS, DEBTS],
-    "clear": [BANKS, DEBTS],
-    "central": [BANKS, DEBTS],
-    "defaults": [BANKS, DEBTS],
-    "convert": [BANKS, DEBTS],
-    "stress": [BANKS, DEBTS, ["--scenarios", "s"]],
-    "replay": [BANKS, DEBTS, ["--journal", "j"]],
-    "bounds": [BANKS, DEBTS],
-    "gen": [["--seed", "1"], ["--size", "1"], ["--tries", "1"]],
-    "rescue": [BANKS, DEBTS, ["--bank", "A"]],
-    "compress": [BANKS, DEBTS],
-    "costs": [BANKS, DEBTS, KEEP],
-    "cost-bounds": [BANKS, DEBTS, KEEP],
-    "breaking": [BANKS, DEBTS],
-    "impact": [BANKS, DEBTS],
-    "rescues": [BANKS, DEBTS],
-    "outcomes": [BANKS, DEBTS, ["--scenarios", "s"]],
-}
-TASKS_OF_WORKERS = ["clear", "defaults", "stress", "gen", "bounds", "rescue"]
-ONE_OF_EACH = [
-    ["--scenarios", "s"],
-    ["--journal", "j"],
-    ["--bank", "A"],
-    ["--seed", "1"],
-    ["--size", "1"],
-    ["--tries", "1"],
-    KEEP,
-    ["--show", "both"],
-    ["--workers", "1"],
-    ["--sweeps", "1"],
-    BANKS,
-    DEBTS,
-]
-CLEAR = ["clear", *BANKS, *DEBTS]
-
-# Words that name no task.
-NO_TASK: List[Words] = [
-    [],
-    [""],
-    ["x"],
-    ["Clear"],
-    ["clears"],
-    ["x" * 300],
-    ["é" * 100],
-    ["--"],
-    ["-"],
-    ["--help"],
-    ["-h"],
-    ["--version"],
-    ["help"],
-    ["--banks"],
-    ["--x"],
-    ["--", "--banks"],
-    ["--workers", "1"],
-    ["-x", *BANKS, *DEBTS],
-    ["-V"],
-    ["cost_bounds", *BANKS, *DEBTS, "--keep=5"],
-]
-
-# Options without a value, with one dash or of another name, and values that are none.
-OPTIONS_OUT_OF_FORM: List[Words] = [
-    [*CLEAR, ""],
-    ["clear", "--banks", *DEBTS],
-    ["clear", "--banks", "--", "b", *DEBTS],
-    ["clear", "-banks", "b", *DEBTS],
-    ["clear", *BANKS, "--debts="],
-    ["clear", *BANKS, "--debts", "-"],
-    [*CLEAR, "--workers", " 1"],
-    ["clear", "--banks=a", "--debts=d", "--banks=b"],
-    [*CLEAR, "--threads=2"],
-    ["rescue", *BANKS, *DEBTS, "--bank=a,b"],
-    ["gen", "--seed=1", "--size=0", "--tries=0"],
-    *([*CLEAR, f"--show={value}"] for value in ("", "x", "Both", "x" * 300)),
-    *(["clear", "--banks", name, *DEBTS] for name in ("", "-b", "-")),
-    *(["rescue", *BANKS, *DEBTS, "--bank", name] for name in ("", "-A")),
-]
-
-NO_TEXT: List[Words] = [
-    [b"\xff"],
-    ["clear", *BANKS, "--debts", b"\xff"],
-    [*CLEAR, b"\xc3"],
-    [b"x" * 100 + b"\xff", *["x"] * 20],
-]
-
-
-def required_words(task: str) -> List[str]:
-    """The options that a task requires, in one list of words."""
-    return [word for option in REQUIRED[task] for word in option]
-
-
-def may_have(task: str, option: Sequence[str]) -> bool:
-    """Whether a task has an option that it does not require."""
-    if option[0] in ("--workers", "--sweeps"):
-        return task in TASKS_OF_WORKERS
-    return option[0] == "--show" and task == "clear"
-
-
-def words_about(task: str) -> Iterator[Words]:
-    """A task twice, behind its options or between other words; and options that it does not know."""
-    words = required_words(task)
-    yield from ([task], [task, task, *words], [*words], [task, *words, "--", "x"], ["--", task, *words])
-    yield from ([task, *words, "--help"], ["x", *words])
-    yield from ([task, *words, more] for more in ("--x", "--x=1", "-x", "x", "--workers"))
-
-
-def options_out_of_place(task: str) -> Iterator[Words]:
-    """A task without one of its options, with one of them twice, or with one of another task."""
-    options, words = REQUIRED[task], required_words(task)
-    for left in options:
-        yield [task, *(word for option in options if option is not left for word in option)]
-    yield from ([task, *words, *option] for option in options)
-    yield from (
-        [task, *words, *option] for option in ONE_OF_EACH if option not in options and not may_have(task, option)
-    )
-
-
-def values_beyond() -> Iterator[Words]:
-    """Values below or above what an option takes, and values that are no numbers."""
-    for task in REQUIRED:
-        for plan in (["--workers", "65"], ["--sweeps", "0"], ["--workers=0", "--sweeps=1"]):
-            yield [task, *required_words(task), *plan]
-    for name, (low, high) in {"workers": (1, 64), "sweeps": (1, 1000)}.items():
-        for value in (low - 1, high + 1, -1, "", "x", "1.0", "0" * 21, "9" * 20, "9" * 300):
-            yield [*CLEAR, f"--{name}={value}"]
-    for name, high in (("seed", 2**64 - 1), ("size", 1000), ("tries", 20_000)):
-        values = {"seed": 1, "size": 1, "tries": 1}
-        for value in (high + 1, -1, "", "x", "1.0", "0" * 21, "9" * 20, *([0] if name == "size" else [])):
-            yield ["gen", *(f"--{key}={value if key == name else kept}" for key, kept in values.items())]
-    for task in ("costs", "cost-bounds"):
-        yield from ([task, *BANKS, *DEBTS, f"--keep={value}"] for value in (1001, -1, "", "x", "9" * 20))
-
-
-# The tasks that read the banks and the debts alone, and want nothing else.
-TASKS_OF_TWO_FILES = [
-    "check",
-    "clear",
-    "central",
-    "defaults",
-    "convert",
-    "bounds",
-    "compress",
-    "breaking",
-    "impact",
-    "rescues",
-]
 NOT_LAWFUL = (7, "clearing: the journal is not a lawful complete history\n")
 
 
@@ -431,51 +251,11 @@ def lawful_behind(count: int, name: str) -> Tuple[List[str], str]:
     return [f"{count},{name},B,9,900000", f"rounds,{count}"], f"lawful,{count + 1}\n\n{paid}"
 
 
-class Refusals(Case):
-    def setUp(self):
-        super().setUp()
-        self.names = {
-            "scenarios": self.file("scenarios.toml", one('"a"')),
-            "journal": self.file("journal.csv", HEADERS["journal"] + "\n"),
-        }
-        self.use(FEW_BANKS, FEW_DEBTS)
+class Records(RefusalCase):
+    """Faults of records, in early rows and late ones."""
 
-    def use(self, banks, debts):
-        """Gives a network to the runs that follow."""
-        for file, records in (("banks", banks), ("debts", debts)):
-            self.names[file] = self.file(f"{file}.csv", "\n".join([HEADERS[file], *records]) + "\n")
-
-    def on_both(self):
-        """Both networks, by turns; answers whether it is the large one."""
-        for many in (False, True):
-            self.use(MANY_BANKS if many else FEW_BANKS, MANY_DEBTS if many else FEW_DEBTS)
-            yield many
-
-    def ends(self, words, status, message, output=""):
-        words = [word if isinstance(word, bytes) else str(word).encode() for word in words]
-        done = subprocess.run([PROGRAM.encode(), *words], stdin=subprocess.DEVNULL, capture_output=True)
-        told = done.returncode, done.stderr.decode(errors="replace"), done.stdout.decode(errors="replace")
-        if told != (status, message, output):
-            self.fail(
-                f"{[word[:80] for word in words]}: {told[0], told[1][:200], told[2][:80]} in place of"
-                f" {status, message[:200]}"
-            )
-
-    def words(self, file, path, task=None):
-        """The words of a run of which a file has another name."""
-        task = task or {"banks": "check", "debts": "clear", "scenarios": "stress", "journal": "replay"}[file]
-        names = {**self.names, file: path}
-        shown = ["banks", "debts", *([file] if file in ("scenarios", "journal") else [])]
-        return [task, *(word for name in shown for word in (f"--{name}", names[name]))]
-
-    def fault(self, file, content, row, kind, task=None):
-        self.ends(
-            self.words(file, self.file("tried", content), task),
-            4,
-            f"clearing: {file} row {row}: {kind} ({NUMBERS[kind]})\n",
-        )
-
-    def check_records(self, file, header, before, faults, blanks=BLANKS):
+    def check_records(self, file: str, header: str, before: Any, faults: Any, blanks: Any = BLANKS) -> None:
+        """Each fault is told in its row, behind some good records and some blank ones."""
         faults = list(faults)
         for count in blanks:
             # All faults in the first rows, and of the late ones those of each kind that come first and last.
@@ -555,6 +335,10 @@ class Refusals(Case):
         )
         return done.returncode, done.stderr, done.stdout
 
+
+class Documents(RefusalCase):
+    """Faults of headers, of scenarios, and of what is too large."""
+
     def test_headers(self):
         for file, header in HEADERS.items():
             for text in header_faults(header):
@@ -627,121 +411,15 @@ class Refusals(Case):
                 self.ends(self.words(third, self.names[third], task), 4, f"clearing: {file} row 0: file size (14)\n")
                 self.names[file] = kept
 
-    def test_unknown_bank_of_rescue(self):
-        unknown = ["Z", "a", "A ", "x" * 9, "x" * 63, "y" * 64, "é" * 32, "😁" * 16, "😀" * 15, "n" * 63]
-        for many in self.on_both():
-            for name in [*unknown, "y" * 65, "z" * 300, "😀" * 17, "a,b", "n" * 65]:
-                for more in ([], ["--workers", 64, "--sweeps", 1000]):
-                    with self.subTest(name=name[:70], more=more, many=many):
-                        words = [
-                            "rescue",
-                            "--banks",
-                            self.names["banks"],
-                            "--debts",
-                            self.names["debts"],
-                            "--bank",
-                            name,
-                            *more,
-                        ]
-                        # What is no name of a bank is no word of the option.
-                        self.ends(
-                            words, *(4, "clearing: words row 0: unknown bank (8)\n") if name in unknown else USAGE
-                        )
+    def test_each_kind_is_tried(self):
+        tried = {
+            kind for kind, _ in [*bank_faults(True), *debt_faults(), *raise_faults(), *scenario_faults(), *documents()]
+        }
+        self.assertEqual(tried | {"header", "too many", "total", "file size"}, set(NUMBERS))
 
-    def usage(self, lists: Iterable[Words]) -> None:
-        """Each of these lists of words is a faulty command line."""
-        for words in lists:
-            with self.subTest(words=[word[:60] for word in words][:16]):
-                self.ends(words, *USAGE)
 
-    def test_the_required_options_are_those_of_the_document(self) -> None:
-        tasks = re.findall(r"^\| `([a-z-]+)` \| [^|]*\| `--[^|]*\| [^|]*\|$", FORMATS, re.M)
-        self.assertEqual(sorted(REQUIRED), sorted(tasks))
-
-    def test_words_without_a_task_are_a_faulty_command_line(self) -> None:
-        self.usage(NO_TASK)
-
-    def test_a_task_stands_once_and_before_its_options(self) -> None:
-        self.usage(words for task in REQUIRED for words in words_about(task))
-
-    def test_a_task_has_each_of_its_options_once_and_no_other(self) -> None:
-        self.usage(words for task in REQUIRED for words in options_out_of_place(task))
-
-    def test_long_lists_of_words_are_a_faulty_command_line(self) -> None:
-        for task in REQUIRED:
-            words = [task, *required_words(task)]
-            self.usage([*words, *["x"] * count] for count in (1, 2, 3, 8, 30, 500))
-            self.usage([*words, *BANKS * count] for count in (2, 6, 100))
-
-    def test_values_beyond_their_limits_are_a_faulty_command_line(self) -> None:
-        self.usage(values_beyond())
-
-    def test_options_out_of_form_are_a_faulty_command_line(self) -> None:
-        self.usage(OPTIONS_OUT_OF_FORM)
-
-    def test_words_that_are_no_text_are_a_faulty_command_line(self) -> None:
-        self.usage(NO_TEXT)
-
-    def missing(self) -> List[Union[pathlib.Path, str]]:
-        """Paths at which no file can be read: nothing, a folder, a link to itself, and names too long."""
-        folder = self.file("folder")
-        folder.mkdir()
-        self.file("loop").symlink_to(self.file("loop"))
-        return [
-            self.file("missing"),
-            folder / "missing",
-            self.file("m" * 21),
-            self.file("m" * 200),
-            self.file("m" * 255),
-            self.file("m" * 300),
-            folder,
-            self.names["banks"] / "x",
-            self.file("loop"),
-            "/" + "x/" * 3_000,
-            "nowhere/" + "é" * 100,
-            "/dev/null/x",
-        ]
-
-    def test_each_file_that_cannot_be_read_is_named(self) -> None:
-        missing = self.missing()
-        for file in ("banks", "debts", "scenarios", "journal"):
-            for path in missing:
-                with self.subTest(file=file, path=str(path)[:100]):
-                    self.ends(self.words(file, path), 3, f"clearing: cannot read {path}\n")
-
-    def test_each_task_of_two_files_names_the_one_that_cannot_be_read(self) -> None:
-        missing = self.missing()
-        for task in TASKS_OF_TWO_FILES:
-            for path in (missing[0], self.file("folder")):
-                with self.subTest(task=task, path=path):
-                    self.ends(
-                        [task, "--banks", self.names["banks"], "--debts", path], 3, f"clearing: cannot read {path}\n"
-                    )
-
-    def test_each_file_is_read_and_measured_before_the_next_and_the_contents_come_after(self) -> None:
-        long, faulty = self.file("long", b"x" * (LARGEST + 1)), self.file("faulty", "x\n")
-        gone, other, third = self.missing()[:3]
-        banks, debts = self.names["banks"], self.names["debts"]
-        for names, status, message in [
-            ((gone, other, third), 3, f"cannot read {gone}"),
-            ((faulty, gone, other), 3, f"cannot read {gone}"),
-            ((faulty, faulty, gone), 3, f"cannot read {gone}"),
-            ((long, gone, gone), 4, "banks row 0: file size (14)"),
-            ((faulty, long, gone), 4, "debts row 0: file size (14)"),
-            ((faulty, faulty, faulty), 4, "banks row 0: header (1)"),
-            ((banks, faulty, faulty), 4, "debts row 0: header (1)"),
-            ((banks, debts, faulty), 4, "journal row 0: header (1)"),
-        ]:
-            words = [word for pair in zip(("--banks", "--debts", "--journal"), names) for word in pair]
-            self.ends(["replay", *words], status, f"clearing: {message}\n")
-
-    def test_output_that_cannot_be_written(self):
-        for words in (self.words("banks", self.names["banks"]), ["gen", "--seed", 1, "--size", 9, "--tries", 9]):
-            with open("/dev/full", "wb") as full:
-                done = subprocess.run(
-                    [PROGRAM, *map(str, words)], stdin=subprocess.DEVNULL, stdout=full, stderr=subprocess.PIPE
-                )
-            self.assertEqual((done.returncode, done.stderr), (5, b"clearing: cannot write the output\n"))
+class Verdicts(RefusalCase):
+    """Journals that are no lawful complete histories."""
 
     def test_verdicts_at_early_and_late_entries(self):
         self.verdicts((0, 1, 3, 4, 5, 9, 10, 11, 100, 5_001, 70_000), 0)
@@ -760,13 +438,3 @@ class Refusals(Case):
                     path = self.file("tried.csv", "\n".join([HEADERS["journal"], *lawful, *further]) + "\n")
                     words = ["replay", "--banks", banks, "--debts", debts, "--journal", path]
                     self.ends(words, *((0, "") if verdict.startswith("lawful") else NOT_LAWFUL), verdict)
-
-    def test_each_kind_is_tried(self):
-        tried = {
-            kind for kind, _ in [*bank_faults(True), *debt_faults(), *raise_faults(), *scenario_faults(), *documents()]
-        }
-        self.assertEqual(tried | {"header", "too many", "total", "file size"}, set(NUMBERS))
-
-
-if __name__ == "__main__":
-    unittest.main()

@@ -8,8 +8,9 @@ import subprocess
 import sys
 import tempfile
 import unittest
+from typing import Any, List
 
-from common import PROGRAM, ROOT, Case, files_of, needs
+from common import PROGRAM, ROOT, Case, Word, files_of, needs
 from test_r_package import ALONE
 
 sys.path.insert(0, str(ROOT / "python"))
@@ -20,7 +21,7 @@ if not LACKS and subprocess.run(["Rscript", "-e", "library(knitr)"], capture_out
     LACKS.append("R's package knitr")
 
 
-def ran(*words, **more):
+def ran(*words: Word, **more: Any) -> "subprocess.CompletedProcess[str]":
     return subprocess.run(
         [str(word) for word in words], stdin=subprocess.DEVNULL, capture_output=True, encoding="utf-8", **more
     )
@@ -66,16 +67,16 @@ class Release(Case):
         cls.one = cls.made(cls.shared / "one")
 
     @classmethod
-    def git(cls, *words):
+    def git(cls, *words: str) -> None:
         subprocess.run(["git", "-C", str(cls.checkout), *words], check=True, capture_output=True)
 
     @classmethod
-    def release(cls, *words, **more):
+    def release(cls, *words: Word, **more: Any) -> "subprocess.CompletedProcess[str]":
         environment = {key: value for key, value in os.environ.items() if key != "CLEARING"}
         return ran(cls.checkout / "tools/dev/release.sh", *words, env={**environment, **more})
 
     @classmethod
-    def made(cls, folder):
+    def made(cls, folder: pathlib.Path) -> List[pathlib.Path]:
         done = cls.release("--gate", cls.log, folder)
         full = build.full_name()
         wheel = f"{full}-{build.tag_of((cls.checkout / 'crates/clear_main/out/clear_main').read_bytes())}.whl"
@@ -94,7 +95,7 @@ class Release(Case):
             raise AssertionError(done)
         return [folder / name for name in names]
 
-    def clears(self, program):
+    def clears(self, program: Word) -> None:
         files = files_of(ROOT / "examples/chain")
         done = ran(program, "clear", *files)
         self.assertEqual((done.returncode, done.stdout.split()[1:]), (0, ["A,B,1,10,7", "B,C,1,9,8"]))
@@ -273,7 +274,7 @@ class Release(Case):
         )
         self.assertRegex(done.stdout, "(?m)^Status: OK$")
 
-    def refused(self, message, *words, status=1, **more):
+    def refused(self, message: str, *words: Word, status: int = 1, **more: Any) -> None:
         folder = self.folder / "none"
         done = self.release(*words, folder, **more)
         self.assertEqual((done.returncode, done.stdout, folder.exists()), (status, "", False), done.stderr)

@@ -1,8 +1,10 @@
 """The report as a document: Word and PDF have the parts of the page; the analyst's text is read and does nothing."""
+import pathlib
 import shutil
 import subprocess
 import sys
 import unittest
+from typing import Optional
 
 from common import Case, needs, python_with, tool
 from reports import PYTHON, TWELVE, Report, files_of
@@ -20,7 +22,7 @@ print(json.dumps([[p.text for p in found.paragraphs], tables,
 
 
 class Documents(Report):
-    def made(self, name, python):
+    def made(self, name: str, python: Optional[str]) -> pathlib.Path:
         out = self.folder / name
         done = tool(
             "clearing-report",

@@ -13,12 +13,17 @@ import signal
 import socket
 import subprocess
 import time
+from typing import List
 
-from common import PACKAGES, PROGRAM, ROOT, clearing, tool
+from common import PACKAGES, PROGRAM, ROOT, clearing, is_running, tool
 from clearing_tools.drawing import web
 from clearing_tools.labels import shown
 from browser import D3
-from reports import PYTHON, TWELVE, Reader, Report, files_of, is_running, odd_net
+from reports import PYTHON, TWELVE, Reader, Report, files_of, odd_net
+
+# The files that a report makes of its inputs to answer a question, in the order of their names.
+MADE_FOR_QUESTIONS = ["banks-order.csv", "banks-rescued.csv", "banks-unit.csv", "banks-webster.csv"]
+MADE_FOR_QUESTIONS += ["debts-reversed.csv", "debts-unit.csv", "rescues.toml"]
 
 
 class TheFile(Report):
@@ -133,50 +138,33 @@ class TheFile(Report):
             message="the first row is not code,name",
         )
 
-    def test_the_evidence_can_be_made_again(self):
+    def reported(self) -> List[List[str]]:
+        """A report is made in a folder that has its inputs, and keeps what it made besides in `kept`: the rows of the
+        tables of its page."""
         for name in ("banks.csv", "debts.csv", "scenarios.toml"):
             shutil.copy(TWELVE / name, self.folder / name)
-        kept = self.folder / "kept"
-        done = tool(
-            "clearing-report",
-            "--banks",
-            "banks.csv",
-            "--debts",
-            "debts.csv",
-            "--scenarios",
-            "scenarios.toml",
-            "--default-keeps",
-            "800",
-            "--out",
-            "r.html",
-            "--keep",
-            "kept",
-            cwd=self.folder,
-            python=PYTHON,
-        )
+        files = ["--banks", "banks.csv", "--debts", "debts.csv", "--scenarios", "scenarios.toml"]
+        words = [*files, "--default-keeps", "800", "--out", "r.html", "--keep", "kept"]
+        done = tool("clearing-report", *words, cwd=self.folder, python=PYTHON)
         self.assertEqual((done.returncode, done.stderr), (0, "") if os.path.exists(D3) else (0, done.stderr))
-        rows = [cells for _, cells in Reader((self.folder / "r.html").read_text(encoding="utf-8")).rows]
+        return [cells for _, cells in Reader((self.folder / "r.html").read_text(encoding="utf-8")).rows]
+
+    def test_the_evidence_has_each_input_with_its_size_and_its_checksum(self):
+        rows, kept = self.reported(), self.folder / "kept"
         inputs = {cells[1]: cells for cells in rows if len(cells) == 4 and re.fullmatch("[0-9a-f]{64}", cells[3])}
         for name in ("banks.csv", "debts.csv", "scenarios.toml"):
             content = (self.folder / name).read_bytes()
             self.assertEqual(inputs[name][2:], [f"{len(content):,}", hashlib.sha256(content).hexdigest()])
-        commands = [cells for cells in rows if len(cells) == 3 and cells[0].startswith("clearing ")]
-        self.assertEqual(len(commands), 16)
         made = [cells[1] for cells in inputs.values() if cells[0] == "made for a question"]
-        self.assertEqual(
-            sorted(made),
-            [
-                "banks-order.csv",
-                "banks-rescued.csv",
-                "banks-unit.csv",
-                "banks-webster.csv",
-                "debts-reversed.csv",
-                "debts-unit.csv",
-                "rescues.toml",
-            ],
-        )
+        self.assertEqual(sorted(made), MADE_FOR_QUESTIONS)
         for name in made:
             self.assertEqual(inputs[name][3], hashlib.sha256((kept / name).read_bytes()).hexdigest())
+
+    def test_each_command_of_the_evidence_makes_its_output_again(self):
+        rows, kept = self.reported(), self.folder / "kept"
+        commands = [cells for cells in rows if len(cells) == 3 and cells[0].startswith("clearing ")]
+        self.assertEqual(len(commands), 16)
+        for name in MADE_FOR_QUESTIONS:
             shutil.copy(kept / name, self.folder / name)
         shell = f'clearing() {{ {shlex.quote(PROGRAM)} "$@"; }}\n'
         for words, status, digest in commands:
@@ -317,9 +305,7 @@ class TheFile(Report):
                 stderr=subprocess.PIPE,
             )
             self.addCleanup(running.kill)
-            deadline = time.monotonic() + 30
-            while not told.read_text().endswith("\n") and time.monotonic() < deadline:
-                time.sleep(0.02)
+            self.until(lambda: told.read_text().endswith("\n"))
             begun = time.monotonic()
             running.send_signal(number)
             output, messages = running.communicate(timeout=30)
@@ -328,7 +314,7 @@ class TheFile(Report):
             self.assertEqual(list(place.iterdir()), [])
             self.assertFalse((self.folder / "r.html").exists())
             for process in told.read_text().split():
-                self.assertFalse(is_running(process), (task, number))
+                self.until(lambda: not is_running(process), 5)
 
     def test_an_output_that_is_not_of_the_form_is_said(self):
         script = f'[ "$1" = "$TASK" ] || exec {shlex.quote(PROGRAM)} "$@"\nprintf "$SAID"\n'

@@ -1,4 +1,5 @@
 """The journal of a report: millions of raises are read as they come, and the player's steps are few."""
+import pathlib
 import subprocess
 import sys
 
@@ -15,7 +16,7 @@ print(len(frames), sum(frame[4] for frame in frames), frames[-1][5], resource.ge
 
 
 class Journal(Case):
-    def journal(self, raises):
+    def journal(self, raises: int) -> pathlib.Path:
         """A journal in which two banks pay each other one unit more in turn."""
         pairs = ("A,B", "B,A")
         text = "".join(f"{at},{pairs[at % 2]},1,{at // 2 + 1}\n" for at in range(raises))

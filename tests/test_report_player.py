@@ -1,6 +1,7 @@
 """The drawing of the report, and the player of the journal."""
 import re
 
+from browser import Keys
 from common import EXAMPLES, ROOT
 from reports import TWELVE, InTheBrowser, files_of, largest, ring_with_outside, rows_of
 
@@ -113,8 +114,6 @@ class Player(InTheBrowser):
 
     def test_a_bank_with_the_focus_shows_its_row(self):
         self.open(files_of(TWELVE))
-        from selenium.webdriver.common.keys import Keys
-
         first = self.js("return document.querySelector('svg.net a').dataset.bank")
         self.js("document.querySelector('.lim a').focus()")
         self.press(Keys.TAB)
@@ -153,8 +152,6 @@ class Player(InTheBrowser):
         self.assertEqual(self.js("return document.querySelectorAll('svg.net .n-gridlock').length"), 3)
 
     def test_the_keyboard_alone_reaches_and_works_all(self):
-        from selenium.webdriver.common.keys import Keys
-
         self.open(files_of(TWELVE), "--scenarios", TWELVE / "scenarios.toml")
         reached = []
         for _ in range(260):
@@ -188,7 +185,7 @@ class Player(InTheBrowser):
         self.press(Keys.ENTER)
         self.assertEqual(self.shown_rows()[0], "Crédit Loire")
 
-    def walk(self):
+    def walk(self) -> None:
         """Goes through the journal by each of its ways, without motion."""
         self.run_of("Emulation.setEmulatedMedia", features=[{"name": "prefers-reduced-motion", "value": "reduce"}])
         self.click("first")

@@ -3,9 +3,10 @@ import base64
 import re
 import shutil
 import subprocess
+from typing import Any, List
 
 from browser import CONTRAST
-from common import ROOT, needs
+from common import ROOT, Word, needs
 from reports import TWELVE, InTheBrowser, files_of, largest, rows_of
 
 
@@ -20,7 +21,7 @@ class Sizes(InTheBrowser):
         self.widths_of(files_of(TWELVE), "--scenarios", TWELVE / "scenarios.toml", "--title", "A" * 90)
         self.widths_of(files_of(self.folder), "--scenarios", scenarios, "--default-keeps", "700")
 
-    def widths_of(self, *words):
+    def widths_of(self, *words: Any) -> None:
         self.open(*words)
         self.js("document.querySelector('svg.net a').focus()")
         for wide in (320, 360, 640, 1280):  # 640 is 1280 at 200 %, 320 at 400 %
@@ -52,7 +53,7 @@ class Sizes(InTheBrowser):
         return [f.getAttribute('aria-label') || 'a bank', bar >= 10, reached];
     })"""
 
-    def large(self):
+    def large(self) -> List[Word]:
         """Thirty banks with long names that hold much, and some debts."""
         names = [f"{letter * 30} & Söhne Landesbank {at}" for at, letter in enumerate("abcdefghijklmnopqrstuvwxyzMWQ@")]
         self.file(
@@ -108,7 +109,7 @@ class Sizes(InTheBrowser):
 
     PAPERS = {"A4": (8.27, 11.69), "Letter": (8.5, 11)}
 
-    def pages(self, paper):
+    def pages(self, paper: Any) -> Any:
         """The texts of the pages on paper of this kind, with none of its heads at the foot of a page, alone or with
         its first words."""
         wide, tall = self.PAPERS[paper]
@@ -161,7 +162,7 @@ class Sizes(InTheBrowser):
                 self.assertIn(words, " ".join(pages))
             self.assertIn("Dunmore leaves the most unpaid", pages[0])
 
-    def thirty(self):
+    def thirty(self) -> List[Word]:
         """Thirty banks and a hundred scenarios."""
         self.file(
             "banks.csv", "name,cash,rule\n" + "".join(f"Bank number {i},{i * 7919 % 500},webster\n" for i in range(30))

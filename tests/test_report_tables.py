@@ -1,15 +1,71 @@
 """The tables of the report have the numbers of the program, and are sorted and filtered."""
 import re
+from typing import Any, Dict, List, Tuple
 
-from common import ROOT, clearing
+from browser import Keys
+from common import ROOT, Word, clearing
 from reports import TWELVE, InTheBrowser, amount, files_of, outside_net, rows_of
 
 from clearing_client import Network
 from clearing_client.steady import MARK, NOTE, WHY, unsteady
 
+Rows = List[List[str]]
+"""The cells of a table."""
+# The pictures of the page, each of which is given with its numbers.
+PICTURES = ("network", "unpaid", "breaking", "scenarios", "ruin")
+# An example, and the thousandths of its estate that a bank in default keeps there.
+COSTLY = (("core", 800), ("hub", 500), ("cycles", 0), ("gridlock", 900), ("chain", 1000))
+
+
+def variants_of(files: List[Word]) -> Dict[str, Tuple[Rows, Rows]]:
+    """The records of both files of a case, as given and in variants, by the names that the page has for them."""
+    read = lambda path: [line.split(",") for line in path.read_text(encoding="utf-8").splitlines()]
+    banks, debts = read(files[1]), read(files[3])
+    halves = lambda rows, at: [
+        rows[0],
+        *([*row[:at], str(round(int(row[at]) / 2)), *row[at + 1 :]] for row in rows[1:]),
+    ]
+    by_rule = lambda rule: [banks[0], *([*row[:2], rule] for row in banks[1:])]
+    return {
+        "as given": (banks, debts),
+        "each bank by webster, in proportion": (by_rule("webster"), debts),
+        "each bank pays one after another (order)": (by_rule("order"), debts),
+        "unit twice as large": (halves(banks, 1), halves(debts, 3)),
+        "debts in reverse order": (banks, [debts[0], *debts[:0:-1]]),
+    }
+
+
+def cost_bounds_of(files: List[Word], keep: int) -> Tuple[Rows, Rows]:
+    """What the program says of debts and of banks at both ends, where a bank in default keeps some thousandths."""
+    text = clearing("cost-bounds", *files, "--keep", keep).stdout.decode()
+    debts, banks = text.removesuffix("\n").split("\n\n")
+    return [line.split(",") for line in debts.split("\n")[1:]], [line.split(",") for line in banks.split("\n")[1:]]
+
+
+def column_of(states: List[str], *amounts: int) -> List[str]:
+    """A column of the table of both ends: how many banks are in default, and by which label, and some amounts."""
+    counts = [len(states) - states.count("sound"), states.count("fundamental"), states.count("contagion")]
+    return [f"{count:,}" for count in [*counts, *amounts]]
+
+
+def ends_of(files: List[Word], keep: int) -> Rows:
+    """The columns of the table of both ends: without costs, at the least payments and at the greatest. Each ends with
+    what stays unpaid, what is lost of estates, and what banks keep."""
+    (debts, banks), plain = cost_bounds_of(files, keep), rows_of("defaults", files)
+    given = [line.split(",") for line in files[1].read_text().splitlines()[1:]]
+    cash, outside = sum(int(row[1]) for row in given), sum(int(row[3]) for row in given if len(row) > 3)
+    due, kept = sum(int(debt[3]) for debt in debts) + outside, sum(int(row[-2]) for row in plain)
+    unpaid = due - sum(int(row[-4]) for row in plain) - (cash - kept)
+    columns = [column_of([row[-1] for row in plain], unpaid, 0, kept)]
+    for end, at in ((1, 4), (4, 5)):
+        lost, kept = (sum(int(row[place]) for row in banks) for place in (end, end + 1))
+        unpaid = due - sum(int(debt[at]) for debt in debts) - (cash - lost - kept)
+        columns.append(column_of([row[end + 2] for row in banks], unpaid, lost, kept))
+    return columns
+
 
 class Tables(InTheBrowser):
-    def rows(self, table="#banks-table"):
+    def rows(self, table: str = "#banks-table") -> Dict[str, List[str]]:
         """The cells of the rows of a table, by the first of them."""
         rows = self.js(
             (
@@ -139,36 +195,23 @@ class Tables(InTheBrowser):
         files = files_of(TWELVE)
         self.open(files)
         rows = self.rows("#stands table")
-        expected = {}
-        banks, debts = (
-            [line.split(",") for line in file.read_text(encoding="utf-8").splitlines()] for file in (files[1], files[3])
-        )
-        halves = lambda rows, at: [rows[0]] + [
-            [*row[:at], str(round(int(row[at]) / 2)), *row[at + 1 :]] for row in rows[1:]
-        ]
-        for name, changed in {
-            "as given": (banks, debts),
-            "each bank by webster, in proportion": ([banks[0]] + [[*row[:2], "webster"] for row in banks[1:]], debts),
-            "each bank pays one after another (order)": (
-                [banks[0]] + [[*row[:2], "order"] for row in banks[1:]],
-                debts,
-            ),
-            "unit twice as large": (halves(banks, 1), halves(debts, 3)),
-            "debts in reverse order": (banks, [debts[0], *debts[:0:-1]]),
-        }.items():
-            both = [
-                self.file(word, "".join(",".join(row) + "\n" for row in rows))
-                for word, rows in zip(("b.csv", "d.csv"), changed)
-            ]
-            found = rows_of("defaults", ["--banks", both[0], "--debts", both[1]])
-            unit = 2 if name.startswith("unit") else 1
-            unpaid = unit * sum(int(row[3]) - int(row[2]) for row in found)
-            expected[name] = [str(sum(row[-1] != "sound" for row in found)), f"{round(unpaid / 1000):,}"]
+        expected = {name: self.fallen_and_unpaid(name, *changed) for name, changed in variants_of(files).items()}
         self.assertEqual({name: row[:2] for name, row in rows.items() if name in expected}, expected)
         self.assertNotIn("unit half as large", rows)  # debts twice as large are more than a file may have
         self.assertEqual(rows["each bank pays one after another (order)"][2], "Birk and Elbe sound")
         self.assertEqual(rows["greatest payments, not least"][2], "no payment differs")
-        # A network in which one unit decides a label says so, and marks the bank.
+
+    def fallen_and_unpaid(self, name: str, banks: Rows, debts: Rows) -> List[str]:
+        """What the page says of a variant: how many banks are in default, and the thousands of the case's units that
+        stay unpaid."""
+        text = lambda rows: "".join(",".join(row) + "\n" for row in rows)
+        files = ["--banks", self.file("b.csv", text(banks)), "--debts", self.file("d.csv", text(debts))]
+        found = rows_of("defaults", files)
+        unit = 2 if name.startswith("unit") else 1
+        unpaid = unit * sum(int(row[3]) - int(row[2]) for row in found)
+        return [str(sum(row[-1] != "sound" for row in found)), f"{round(unpaid / 1000):,}"]
+
+    def test_banks_whose_label_one_unit_decides_are_marked_in_tables_pictures_and_sentences(self):
         banks = self.file("b.csv", "name,cash,rule\nA,3,webster\nB,0,order\nC,0,order\nD,0,order\n")
         debts = self.file("d.csv", "debtor,creditor,class,claim\nA,B,1,2\nA,C,1,2\nB,D,1,2\nC,D,1,2\n")
         self.open(["--banks", banks, "--debts", debts])
@@ -182,9 +225,9 @@ class Tables(InTheBrowser):
             [name for name, cells in self.rows().items() if MARK in cells[0]],
             sorted(expected, key=list(self.rows()).index),
         )
-        # In pictures and sentences too, with what it means.
         drawn = self.js("return [...document.querySelectorAll('svg.net .nm')].map(t => t.textContent)")
         self.assertEqual(sorted(name for name in drawn if MARK in name), sorted(f"{name} {MARK}" for name in expected))
+        # It is said what the mark means.
         self.assertIn(NOTE, self.js("return document.querySelector('.lim').textContent"))
         self.assertIn(WHY, self.js("return document.querySelector('#stands .src').textContent"))
 
@@ -244,12 +287,13 @@ class Tables(InTheBrowser):
         self.js("document.getElementById('search').focus()")
         self.press("i", "R")
         self.assertEqual(self.shown_rows(), ["Birk", "Crédit Loire"])
-        self.press("\ue003", "S")  # a step back
+        self.press(Keys.BACKSPACE, "S")
         self.assertEqual(self.shown_rows(), ["Isar"])
         self.js(choose, "sound")
         self.assertEqual(self.shown_rows(), [])
 
-    def test_each_table_and_picture_is_given_as_a_file(self):
+    def files_given(self) -> List[str]:
+        """Opens the page with all that it may show, takes each file that it gives, and tells their names."""
         self.open(files_of(TWELVE), "--scenarios", TWELVE / "scenarios.toml", "--default-keeps", "700")
         self.js(
             """window.saved = {}; const made = URL.createObjectURL; let last;
@@ -257,13 +301,18 @@ class Tables(InTheBrowser):
             HTMLAnchorElement.prototype.click = function () { saved[this.download] = last; };
             document.querySelectorAll('button[data-file]').forEach(b => b.click());"""
         )
-        pictures = ("network", "unpaid", "breaking", "scenarios", "ruin")
-        names = sorted(
-            [f"{key}.{kind}" for key in pictures for kind in ("csv", "svg", "png")]
-            + ["stands.csv", "banks.csv", "costs.csv"]
-        )
-        self.until(lambda: self.js("return Object.keys(saved).length") == len(names))
-        self.assertEqual(self.js("return Object.keys(saved).sort()"), names)
+        buttons = "[...document.querySelectorAll('button[data-file]')]"
+        missing = f"return {buttons}.filter(b => !(b.dataset.file in saved)).length"
+        self.until(lambda: self.js(missing) == 0)
+        return self.js("return Object.keys(saved).sort()")
+
+    def text_of(self, name: str) -> str:
+        """The text of a file that the page gave."""
+        return self.driver.execute_async_script("saved[arguments[0]].text().then(arguments[1])", name)
+
+    def test_each_table_and_picture_is_given_as_a_file(self):
+        pictures = [f"{key}.{kind}" for key in PICTURES for kind in ("csv", "svg", "png")]
+        self.assertEqual(self.files_given(), sorted([*pictures, "stands.csv", "banks.csv", "costs.csv"]))
         kinds = self.js(
             "return Object.fromEntries(Object.entries(saved).map(([name, content]) => [name, [content.type,"
             " content.size]]))"
@@ -271,16 +320,7 @@ class Tables(InTheBrowser):
         for name, (kind, size) in kinds.items():
             self.assertIn({"csv": "text/csv", "svg": "image/svg+xml", "png": "image/png"}[name[-3:]], kind)
             self.assertGreater(size, 100, name)
-        text = self.driver.execute_async_script("saved['banks.csv'].text().then(arguments[0])").splitlines()
-        self.assertEqual(
-            [line.split(",")[0] for line in text[1:]], [row[0] for row in rows_of("defaults", files_of(TWELVE))]
-        )
-        costs = self.driver.execute_async_script("saved['costs.csv'].text().then(arguments[0])").splitlines()
-        self.assertEqual(
-            [line.split(",") for line in costs[1:]],
-            [row for row in rows_of("cost-bounds", files_of(TWELVE), "--keep", "700") if len(row) == 7][1:],
-        )
-        # Each table that is shown has its numbers as a file.
+        # No table that is shown has its numbers in no file.
         self.assertEqual(
             self.js(
                 """return [...document.querySelectorAll('main table.data')].filter(t => t.checkVisibility()
@@ -290,7 +330,19 @@ class Tables(InTheBrowser):
             ),
             [],
         )
-        svg = self.driver.execute_async_script("saved['network.svg'].text().then(arguments[0])")
+
+    def test_files_of_the_page_have_the_numbers_of_the_program_and_pictures_without_the_page_s_style(self):
+        self.files_given()
+        banks = self.text_of("banks.csv").splitlines()
+        self.assertEqual(
+            [line.split(",")[0] for line in banks[1:]], [row[0] for row in rows_of("defaults", files_of(TWELVE))]
+        )
+        costs = self.text_of("costs.csv").splitlines()
+        self.assertEqual(
+            [line.split(",") for line in costs[1:]],
+            [row for row in rows_of("cost-bounds", files_of(TWELVE), "--keep", "700") if len(row) == 7][1:],
+        )
+        svg = self.text_of("network.svg")
         self.assertNotIn("var(--", svg)
         self.assertEqual(svg.count("data-flow"), 40)
 
@@ -340,72 +392,102 @@ class Tables(InTheBrowser):
         named = [word for word in texts("#breaking") if word in impact]
         self.assertEqual(named, [name for _, name in cuts])
 
-    def test_both_ends_where_default_costs_are_those_of_the_program(self):
-        for name, keep in (("core", 800), ("hub", 500), ("cycles", 0), ("gridlock", 900), ("chain", 1000)):
-            files = files_of(ROOT / "examples" / name)
-            self.open(files, "--default-keeps", keep)
-            ends, *banks = self.js(
-                "return [...document.querySelectorAll('#costs table')].map(t => [...t.tBodies[0].rows].map(r =>"
-                " [...r.cells].map(c => c.textContent.trim())))"
-            )
-            bounds, standings = (
-                part.split("\n")
-                for part in clearing("cost-bounds", *files, "--keep", keep)
-                .stdout.decode()
-                .removesuffix("\n")
-                .split("\n\n")
-            )
-            debts, rows = [line.split(",") for line in bounds[1:]], [line.split(",") for line in standings[1:]]
-            given = [line.split(",") for line in files[1].read_text().splitlines()[1:]]
-            cash, outside = sum(int(row[1]) for row in given), sum(int(row[3]) for row in given if len(row) > 3)
-            due, plain = sum(int(debt[3]) for debt in debts) + outside, rows_of("defaults", files)
-            kept = sum(int(row[-2]) for row in plain)
-            columns = [[[row[-1] for row in plain], due - sum(int(row[-4]) for row in plain) - (cash - kept), 0, kept]]
-            for end, at in ((1, 4), (4, 5)):
-                lost, kept = (sum(int(row[place]) for row in rows) for place in (end, end + 1))
-                columns.append(
-                    [
-                        [row[end + 2] for row in rows],
-                        due - sum(int(debt[at]) for debt in debts) - (cash - lost - kept),
-                        lost,
-                        kept,
+    def summary(self) -> List[str]:
+        """The sentences of the summary."""
+        return self.js(
+            "return [...document.querySelectorAll('#summary li')].map(e => e.textContent.replaceAll('\u00a0', ' '))"
+        )
+
+    def test_the_summary_is_five_sentences_of_the_results(self):
+        self.open(files_of(TWELVE), "--scenarios", TWELVE / "scenarios.toml", "--unit", "1000", "--currency", "EUR")
+        self.assertEqual(
+            self.summary(),
+            [
+                "Four of twelve banks cannot pay all they owe: EUR 1.49 billion of EUR 9.75 billion stays unpaid,"
+                " 15.3%.",
+                "Dunmore and Isar could not pay even if all their debtors paid in full; Elbe and Birk could (label:"
+                " contagion).",
+                "EUR 113 million more lets Birk pay in full, the least of the four; Dunmore needs EUR 700 million,"
+                " and that takes EUR 1.06 billion of unpaid debt away, the most for each EUR (1.51).",
+                "In the worst of three scenarios, \u201cthree quarters are lost and Isar loses all\u201d, the same"
+                " four banks default and EUR 6.61 billion stays unpaid.",
+                "The next bank in default is Jura, at a cut of 89.1% of all cash; then Fjord, at 94.1%.",
+            ],
+        )
+        self.assertEqual(
+            self.js("return document.querySelector('h1').textContent.replaceAll('\u00a0', ' ')"),
+            "Four of twelve banks leave EUR 1.49 billion unpaid",
+        )
+
+    def test_the_summary_tells_of_banks_in_default_at_the_least_payments_alone(self):
+        self.open(files_of(ROOT / "examples/gridlock"))
+        self.assertEqual(
+            self.summary()[1],
+            "A, B and C are in default at the least payments alone (gridlock); greater payments, by 300 units in"
+            " all, would clear too.",
+        )
+
+    def test_the_summary_of_a_bank_without_debts_has_five_sentences_too(self):
+        banks, debts = "name,cash,rule\nA,3,order\n", "debtor,creditor,class,claim\n"
+        self.open(["--banks", self.file("b.csv", banks), "--debts", self.file("d.csv", debts)])
+        self.assertEqual(
+            self.summary(),
+            [
+                "None of one bank is in default: it pays all it owes, 0 units in all.",
+                "A keeps the least, 3 units.",
+                "No bank needs a rescue.",
+                "No scenario was given.",
+                "No other bank falls at any cut of all cash.",
+            ],
+        )
+
+
+class Costs(InTheBrowser):
+    """Both ends of the payments that clear where a bank in default keeps a part of its estate."""
+
+    def tables_of_costs(self, name: str, keep: int) -> Tuple[List[Word], List[Rows]]:
+        """Opens the report of an example: its files, and the rows of the tables on costs, of which the second has the
+        banks in default at either end, if any is."""
+        files = files_of(ROOT / "examples" / name)
+        self.open(files, "--default-keeps", keep)
+        return files, self.js(
+            "return [...document.querySelectorAll('#costs table')].map(t => [...t.tBodies[0].rows].map(r =>"
+            " [...r.cells].map(c => c.textContent.trim())))"
+        )
+
+    def test_the_table_of_both_ends_is_what_the_program_says(self):
+        for name, keep in COSTLY:
+            with self.subTest(name=name):
+                files, (ends, *_) = self.tables_of_costs(name, keep)
+                self.assertEqual([list(column) for column in zip(*(row[1:] for row in ends))], ends_of(files, keep))
+                self.assertEqual(self.js("return document.querySelectorAll('nav a[href=\"#costs\"]').length"), 1)
+
+    def test_banks_in_default_at_either_end_are_shown_and_those_at_one_end_alone_first(self):
+        words = {"fundamental": "own fundamentals"}
+        for name, keep in COSTLY:
+            with self.subTest(name=name):
+                files, (_, *banks) = self.tables_of_costs(name, keep)
+                fallen = {
+                    row[0]: [
+                        *(words.get(state, state) for state in (row[3], row[6])),
+                        *(f"{int(row[at]):,}" for at in (1, 4, 5)),
                     ]
-                )
-            expected = [
-                [
-                    f"{n:,}"
-                    for n in (
-                        len(states) - states.count("sound"),
-                        states.count("fundamental"),
-                        states.count("contagion"),
-                        *amounts,
-                    )
-                ]
-                for states, *amounts in columns
-            ]
-            self.assertEqual([list(column) for column in zip(*(row[1:] for row in ends))], expected, name)
-            words = {"fundamental": "own fundamentals"}
-            fallen = {
-                row[0]: [
-                    words.get(row[3], row[3]),
-                    words.get(row[6], row[6]),
-                    *(f"{int(row[at]):,}" for at in (1, 4, 5)),
-                ]
-                for row in rows
-                if (row[3], row[6]) != ("sound", "sound")
-            }
-            shown = {row[0]: row[1:] for row in (banks[0] if banks else [])}
-            self.assertEqual(len(shown), min(12, len(fallen)), name)
-            self.assertEqual({bank: fallen[bank] for bank in shown}, shown, name)
-            # Those at one end alone come first: as many of them are shown as the table has room for.
-            one_end = [bank for bank, cells in fallen.items() if cells[1] == "sound"]
-            self.assertEqual(sum(bank in shown for bank in one_end), min(12, len(one_end)), name)
-            self.assertEqual(self.js("return document.querySelectorAll('nav a[href=\"#costs\"]').length"), 1)
+                    for row in cost_bounds_of(files, keep)[1]
+                    if (row[3], row[6]) != ("sound", "sound")
+                }
+                shown = {row[0]: row[1:] for row in (banks[0] if banks else [])}
+                self.assertEqual(len(shown), min(12, len(fallen)))
+                self.assertEqual({bank: fallen[bank] for bank in shown}, shown)
+                # As many of those at one end alone are shown as the table has room for.
+                one_end = [bank for bank, cells in fallen.items() if cells[1] == "sound"]
+                self.assertEqual(sum(bank in shown for bank in one_end), min(12, len(one_end)))
+
+    def test_without_costs_of_default_there_is_no_such_part(self):
         self.open(files_of(TWELVE))
         self.assertEqual(self.js("return document.querySelectorAll('#costs, a[href=\"#costs\"]').length"), 0)
 
     def test_the_summary_tells_both_ends_where_default_costs(self):
-        def last(*words):
+        def last(*words: Any) -> List[str]:
             self.open(*words)
             return self.js("return [...document.querySelectorAll('#summary li')].map(e => e.textContent)")[5:]
 
@@ -436,61 +518,3 @@ class Tables(InTheBrowser):
             ],
         )
         self.assertEqual(last(core), [])
-
-    def test_the_summary_is_five_sentences_of_the_results(self):
-        self.open(files_of(TWELVE), "--scenarios", TWELVE / "scenarios.toml", "--unit", "1000", "--currency", "EUR")
-        said = lambda: self.js(
-            "return [...document.querySelectorAll('#summary li')].map(e => e.textContent.replaceAll('\u00a0', ' '))"
-        )
-        self.assertEqual(
-            said(),
-            [
-                (
-                    "Four of twelve banks cannot pay all they owe: EUR 1.49 billion of EUR 9.75 billion stays unpaid,"
-                    " 15.3%."
-                ),
-                (
-                    "Dunmore and Isar could not pay even if all their debtors paid in full; Elbe and Birk could (label:"
-                    " contagion)."
-                ),
-                (
-                    "EUR 113 million more lets Birk pay in full, the least of the four; Dunmore needs EUR 700 million,"
-                    " and that takes EUR 1.06 billion of unpaid debt away, the most for each EUR (1.51)."
-                ),
-                (
-                    "In the worst of three scenarios, \u201cthree quarters are lost and Isar loses all\u201d, the same"
-                    " four banks default and EUR 6.61 billion stays unpaid."
-                ),
-                "The next bank in default is Jura, at a cut of 89.1% of all cash; then Fjord, at 94.1%.",
-            ],
-        )
-        self.assertEqual(
-            self.js("return document.querySelector('h1').textContent.replaceAll('\u00a0', ' ')"),
-            "Four of twelve banks leave EUR 1.49 billion unpaid",
-        )
-        self.open(files_of(ROOT / "examples/gridlock"))
-        self.assertEqual(
-            said()[1],
-            (
-                "A, B and C are in default at the least payments alone (gridlock); greater payments, by 300 units in"
-                " all, would clear too."
-            ),
-        )
-        self.open(
-            [
-                "--banks",
-                self.file("b.csv", "name,cash,rule\nA,3,order\n"),
-                "--debts",
-                self.file("d.csv", "debtor,creditor,class,claim\n"),
-            ]
-        )
-        self.assertEqual(
-            said(),
-            [
-                "None of one bank is in default: it pays all it owes, 0 units in all.",
-                "A keeps the least, 3 units.",
-                "No bank needs a rescue.",
-                "No scenario was given.",
-                "No other bank falls at any cut of all cash.",
-            ],
-        )

@@ -3,8 +3,9 @@ import ast
 import os
 import subprocess
 import sys
+from typing import List, Tuple
 
-from common import ROOT, Case
+from common import ROOT, Case, Word
 
 GOOD = "import unittest\n\nclass Good(unittest.TestCase):\n    def test_good(self):\n        pass\n"
 SKIPPED = GOOD + '\n    @unittest.skip("no moon")\n    def test_moon(self):\n        pass\n'
@@ -45,7 +46,7 @@ class Run(Case):
         self.device = self.file("device", "")
         self.device.chmod(0o666)
 
-    def run_of(self, *words, **modules):
+    def run_of(self, *words: Word, **modules: str) -> Tuple[int, List[str]]:
         """The status and the lines of a run of some modules of tests with some words."""
         text = (ROOT / "tests/run.py").read_text()
         self.assertIn('"/dev/null"', text)

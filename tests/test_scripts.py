@@ -6,6 +6,7 @@ import re
 import shutil
 import subprocess
 import unittest
+from typing import Iterator, Tuple
 
 from common import ROOT, Case, needs
 
@@ -24,7 +25,7 @@ OPENS = re.compile(
 NO_METHOD = ("if", "for", "while", "switch")
 
 
-def functions_in(text):
+def functions_in(text: str) -> Iterator[Tuple[str, int]]:
     """The functions of a module, each with how many lines it has: to the first line that is indented no more."""
     lines = text.split("\n")
     for at, line in enumerate(lines):
@@ -72,7 +73,7 @@ class Modules(unittest.TestCase):
 
 @needs("tsc")
 class Types(Case):
-    def tsc(self, folder):
+    def tsc(self, folder: pathlib.Path) -> Tuple[int, str]:
         """What the checker of types says of the modules of a checkout."""
         words = ["tsc", "-p", str(folder / SETTINGS.relative_to(ROOT))]
         done = subprocess.run(words, capture_output=True, encoding="utf-8")

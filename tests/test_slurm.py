@@ -1,12 +1,14 @@
 """Jobs as an array of a Slurm cluster of this machine alone: its daemons run on the loopback, as root, in the test's
 folder."""
 import os
+import pathlib
 import socket
 import subprocess
 import time
 import unittest
+from typing import Callable, List, Optional
 
-from common import ROOT, Case, needs
+from common import ROOT, Case, Word, comes, needs
 
 JOBS = 1500
 PROGRAM = '#!/bin/sh\n[ "$1" != fail ] || exit 4\nprintf "%s\\n" "$@"\n'
@@ -34,7 +36,7 @@ PartitionName=all Nodes=localhost Default=YES State=UP
 """
 
 
-def free_ports(count):
+def free_ports(count: int) -> List[int]:
     """Ports of the loopback that nobody listens on."""
     held = [socket.create_server(("127.0.0.1", 0)) for _ in range(count)]
     ports = [each.getsockname()[1] for each in held]
@@ -75,21 +77,19 @@ class Slurm(Case):
         self.daemon("slurmd", "-D", "-N", "localhost")
         self.until(lambda: "idle" in self.run_here("sinfo", "--noheader", "--format=%t").stdout)
 
-    def daemon(self, *words):
+    def daemon(self, *words: str) -> None:
         with open(self.folder / f"{words[0]}.told", "wb") as told:
             process = subprocess.Popen(words, env=self.environment, stdin=subprocess.DEVNULL, stdout=told, stderr=told)
         self.addCleanup(process.wait)
         self.addCleanup(process.terminate)
 
-    def until(self, holds, seconds=600):
-        ends = time.monotonic() + seconds
-        while not holds():
-            if time.monotonic() > ends:
-                told = {path.name: path.read_text(errors="replace")[-1000:] for path in self.folder.glob("*.told")}
-                self.fail(f"not within {seconds} seconds: {told}")
-            time.sleep(0.1)
+    def until(self, holds: Callable[[], object], seconds: Optional[float] = 600) -> None:
+        """Waits for something to hold, which fails with what each daemon told where it does not."""
+        if not comes(holds, seconds or self.WAIT):
+            told = {path.name: path.read_text(errors="replace")[-1000:] for path in self.folder.glob("*.told")}
+            self.fail(f"not within {seconds} seconds: {told}")
 
-    def run_here(self, *words):
+    def run_here(self, *words: Word) -> "subprocess.CompletedProcess[str]":
         return subprocess.run(
             [str(word) for word in words],
             cwd=self.folder,
@@ -99,13 +99,13 @@ class Slurm(Case):
             encoding="utf-8",
         )
 
-    def script(self, *words):
+    def script(self, *words: Word) -> pathlib.Path:
         """The batch script for the jobs, as a file."""
         done = self.run_here(ROOT / "bin/clearing-many", "slurm", "jobs.tsv", "out", *words)
         self.assertEqual((done.returncode, done.stderr), (0, ""))
         return self.file("batch.sh", done.stdout)
 
-    def ended(self):
+    def ended(self) -> bool:
         """Whether no task waits or runs."""
         done = self.run_here("squeue", "--noheader")
         return done.returncode == 0 and not done.stdout.strip()

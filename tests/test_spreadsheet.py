@@ -6,7 +6,7 @@ BANKS = "name,cash,rule\nA,7,order\nB,1,order\n"
 DEBTS = HEAD + "A,B,1,10\n"
 
 
-def banks_with(cash="7", rule="order", name="A"):
+def banks_with(cash: str = "7", rule: str = "order", name: str = "A") -> str:
     return f"name,cash,rule\n{name},{cash},{rule}\nB,1,order\n"
 
 

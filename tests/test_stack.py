@@ -7,9 +7,10 @@ import resource
 import subprocess
 import sys
 import unittest
+from typing import Dict, Iterator, List, Tuple
 from unittest import mock
 
-from common import PROGRAM, ROOT, TWELVE, Case, clearing, files_of, needs
+from common import PROGRAM, ROOT, TWELVE, Case, Word, clearing, files_of, needs
 
 from clearing_tools.checks import why
 
@@ -26,7 +27,7 @@ UNITS = 1_000_000
 SECONDS = 300
 
 
-def to_and_fro(classes):
+def to_and_fro(classes: int) -> model.Net:
     """Two banks that owe each other a million units in each of some classes, of which one has a unit. It goes to and
     fro until all is paid: a round, and two raises, for each unit. A third bank owes nine units outside, and has
     nothing."""
@@ -37,7 +38,7 @@ def to_and_fro(classes):
 
 
 class Stack(Case):
-    def ended(self, *words, stack=STACK, environment={}):
+    def ended(self, *words: Word, stack: int = STACK, environment: Dict[str, str] = {}) -> Tuple[int, str, str]:
         """A run on a small stack. Its environment counts as stack too, so it has none."""
         limit = lambda: resource.setrlimit(resource.RLIMIT_STACK, (stack, stack))
         run = [PROGRAM, *map(str, words)]
@@ -52,55 +53,77 @@ class Stack(Case):
         )
         return done.returncode, done.stdout, done.stderr
 
-    def text(self, *words):
+    def text(self, *words: Word) -> str:
         """What a run prints that ends well."""
         status, text, message = self.ended(*words)
         self.assertEqual((status, message), (0, ""), words)
         return text
 
-    def same(self, wanted, *words):
+    def same(self, wanted: str, *words: Word) -> None:
         with self.subTest(words=[str(word) for word in words]):
             told = self.text(*words)
             # A long text is not shown.
             self.assertTrue(told == wanted, (len(told), told[:200]))
 
-    def every_task(self, classes, journal):
+    def given(self, net: model.Net) -> List[Word]:
+        """The words that name the two files of a network."""
+        banks, debts = model.banks_text(net, True), model.debts_text(net)
+        return ["--banks", self.file("banks.csv", banks), "--debts", self.file("debts.csv", debts)]
+
+    def every_task(self, classes: int) -> None:
+        """Each task but gen and replay, on the two banks that pay to and fro until all is paid."""
         net = to_and_fro(classes)
-        files = [
-            "--banks",
-            self.file("banks.csv", model.banks_text(net, True)),
-            "--debts",
-            self.file("debts.csv", model.debts_text(net)),
-        ]
-        low = [UNITS] * len(net.debts)
-        payments, defaults = model.payments_text(net, low), model.defaults_text(net, low)
+        files, low = self.given(net), [UNITS] * len(net.debts)
+        self.payments_and_forms(net, low, files)
+        self.both_ends(net, low, files)
+        self.scenarios(net, low, files)
+        self.rescues_and_losses(net, low, files)
+
+    def payments_and_forms(self, net: model.Net, low: List[int], files: List[Word]) -> None:
+        """What is paid and who defaults, the network in its other forms, and compressed."""
+        payments = model.payments_text(net, low)
         self.same(model.check_text(net), "check", *files)
         self.same(model.banks_text(net, True), "convert", *files)
         for plan in ([], ["--workers", 64, "--sweeps", 1000]):
             self.same(payments, "clear", *files, *plan)
         self.same(payments, "central", *files)
-        self.same(defaults, "defaults", *files)
-        scenarios = [f"{number}" for number in range(2)]
-        toml = "".join(f"[[scenario]]\nname = {json.dumps(name)}\n" for name in scenarios)
-        self.same(
-            "\n".join(f"scenario,{name}\n{payments}{defaults}" for name in scenarios),
-            "stress",
-            *files,
-            "--scenarios",
-            self.file("s.toml", toml),
-        )
-        with mock.patch.object(model, "least", lambda *_: low):
-            self.same(model.costs_text(net, 1000), "costs", *files, "--keep", 1000)
+        self.same(model.defaults_text(net, low), "defaults", *files)
+        with self.subTest(task="compress"):
+            self.assertIsNone(judge_compression(net, self.text("compress", *files)))
+
+    def both_ends(self, net: model.Net, low: List[int], files: List[Word]) -> None:
+        """The least and the greatest payments, which are the same, without costs of default and with them."""
         lines = "".join(
             f"{','.join(map(str, model.debt_fields(net, debt)))},{UNITS},{UNITS},{UNITS}\n" for debt in net.debts
         )
+        debts = f"debtor,creditor,class,claim,least,greatest\n{lines}\n"
+        self.same(f"{debts}bank,wave,gridlock,equity\nA,0,no,1\nB,0,no,0\nC,1,no,0\n", "bounds", *files)
+        with mock.patch.object(model, "least", lambda *_: low):
+            self.same(model.costs_text(net, 1000), "costs", *files, "--keep", 1000)
+        ends = ",".join(f"{what}_at_{end}" for end in ("least", "greatest") for what in ("lost", "equity", "state"))
+        banks = "A,0,1,sound,0,1,sound\nB,0,0,sound,0,0,sound\nC,0,0,fundamental,0,0,fundamental\n"
+        self.same(f"{debts}bank,{ends}\n{banks}", "cost-bounds", *files, "--keep", 1000)
+
+    def scenarios(self, net: model.Net, low: List[int], files: List[Word]) -> None:
+        """Two scenarios that take nothing away."""
+        names = ["0", "1"]
+        toml = self.file("s.toml", "".join(f"[[scenario]]\nname = {json.dumps(name)}\n" for name in names))
+        block = model.payments_text(net, low) + model.defaults_text(net, low)
+        blocks = "\n".join(f"scenario,{name}\n{block}" for name in names)
+        self.same(blocks, "stress", *files, "--scenarios", toml)
+        sums = "".join(f"{name},1,{sum(low)},0,1,1,1\n" for name in names)
         self.same(
-            f"debtor,creditor,class,claim,least,greatest\n{lines}\n"
-            "bank,wave,gridlock,equity\nA,0,no,1\nB,0,no,0\nC,1,no,0\n",
-            "bounds",
+            f"scenario,cash,paid,outside_paid,equity,defaults,fundamental\n{sums}\n"
+            "bank,defaults,fundamental\nA,0,0\nB,0,0\nC,2,2\n",
+            "outcomes",
             *files,
+            "--scenarios",
+            toml,
         )
-        self.same(f"rescue,C,9\nshort,1\n\n{payments}", "rescue", *files, "--bank", "C")
+
+    def rescues_and_losses(self, net: model.Net, low: List[int], files: List[Word]) -> None:
+        """What saves C, the cut at which each bank falls, and what the loss of a bank's cash does to the others."""
+        self.same(f"rescue,C,9\nshort,1\n\n{model.payments_text(net, low)}", "rescue", *files, "--bank", "C")
         self.same("bank,added,short,also_saved,still_short\nC,9,1,0,0\n\nbank,saves\n", "rescues", *files)
         self.same("bank,cut,state\nA,1000,contagion\nB,1000,contagion\nC,0,fundamental\n", "breaking", *files)
         self.same(
@@ -108,46 +131,26 @@ class Stack(Case):
             "impact",
             *files,
         )
-        sums = "".join(f"{name},1,{sum(low)},0,1,1,1\n" for name in scenarios)
-        self.same(
-            f"scenario,cash,paid,outside_paid,equity,defaults,fundamental\n{sums}\n"
-            "bank,defaults,fundamental\nA,0,0\nB,0,0\nC,2,2\n",
-            "outcomes",
-            *files,
-            "--scenarios",
-            self.file("s.toml", toml),
-        )
-        ends = ",".join(f"{what}_at_{end}" for end in ("least", "greatest") for what in ("lost", "equity", "state"))
-        self.same(
-            (
-                f"debtor,creditor,class,claim,least,greatest\n{lines}\nbank,{ends}\n"
-                "A,0,1,sound,0,1,sound\nB,0,0,sound,0,0,sound\nC,0,0,fundamental,0,0,fundamental\n"
-            ),
-            "cost-bounds",
-            *files,
-            "--keep",
-            1000,
-        )
-        with self.subTest(task="compress"):
-            self.assertIsNone(judge_compression(net, self.text("compress", *files)))
-        if journal:
-            shown = self.text("clear", *files, "--show", "journal", "--workers", 1)
-            self.assertTrue(shown.endswith(f"\nrounds,{UNITS + 1}\n"), shown[-100:])
-            self.same(
-                f"lawful,{2 * UNITS}\n\n{payments}", "replay", *files, "--journal", self.file("journal.csv", shown)
-            )
 
     def test_a_million_rounds(self):
-        self.every_task(1, True)
+        self.every_task(1)
 
     def test_five_million_units_in_five_classes(self):
-        self.every_task(5, False)
+        self.every_task(5)
+
+    def test_the_journal_of_a_million_rounds_is_written_and_replayed(self):
+        net = to_and_fro(1)
+        files, payments = self.given(net), model.payments_text(net, [UNITS] * len(net.debts))
+        shown = self.text("clear", *files, "--show", "journal", "--workers", 1)
+        self.assertTrue(shown.endswith(f"\nrounds,{UNITS + 1}\n"), shown[-100:])
+        journal = self.file("journal.csv", shown)
+        self.same(f"lawful,{2 * UNITS}\n\n{payments}", "replay", *files, "--journal", journal)
 
     def test_the_largest_network_by_most_workers(self):
         words = ["gen", "--seed", 1, "--size", 1000, "--tries", 20_000]
         self.assertEqual(self.text(*words, "--workers", 64), self.text(*words, "--workers", 1))
 
-    def said(self):
+    def said(self) -> List[int]:
         """The bytes that PROVED says of the main thread, a thread, and the deepest scenarios."""
         text = (ROOT / "docs/PROVED.md").read_text(encoding="utf-8")
         found = re.search(
@@ -160,7 +163,7 @@ class Stack(Case):
         )
         return [int(number.replace(",", "")) * 1024 for number in found.groups()]
 
-    def tasks(self):
+    def tasks(self) -> Iterator[Tuple[List[Word], bool]]:
         """A run of each task, with 8 workers where it has some, and whether it starts threads."""
         files = files_of(TWELVE)
         journal = self.file("journal.csv", clearing("clear", *files, "--show", "journal", "--workers", 1).stdout)
@@ -199,26 +202,14 @@ class Stack(Case):
 
     @needs("cc")
     def test_what_is_said_of_the_stack_of_a_thread_is_enough(self):
-        least = self.folder / "small.so"
-        subprocess.run(
-            [
-                "cc",
-                "-shared",
-                "-fPIC",
-                f"-DKILOBYTES={self.said()[1] // 1024}",
-                "-o",
-                least,
-                ROOT / "tests/system/small.c",
-                "-ldl",
-            ],
-            check=True,
-        )
+        least, size = self.folder / "small.so", f"-DKILOBYTES={self.said()[1] // 1024}"
+        source = ROOT / "tests/system/small.c"
+        subprocess.run(["cc", "-shared", "-fPIC", size, "-o", least, source, "-ldl"], check=True)
         for words, starts_threads in self.tasks():
             if starts_threads:
                 told = clearing(*words)
-                self.assertEqual(
-                    self.ended(*words, environment={"LD_PRELOAD": str(least)}), (0, told.stdout.decode(), ""), words
-                )
+                ended = self.ended(*words, environment={"LD_PRELOAD": str(least)})
+                self.assertEqual(ended, (0, told.stdout.decode(), ""), words)
 
     def test_scenarios_that_are_nested_deep(self):
         files = [

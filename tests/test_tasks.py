@@ -6,7 +6,7 @@ import sys
 import unittest
 from collections.abc import Iterable
 from pathlib import Path
-from typing import Any
+from typing import Any, List
 
 from common import CHAIN, ROOT, TWELVE, Case, clearing, files_of
 from compared import Compared
@@ -393,18 +393,16 @@ class OtherForms(Case):
             done = clearing("convert", "--banks", self.rows(refused), "--debts", debts)
             self.assertEqual((done.returncode, done.stderr), (4, b"clearing: banks row 1: name (3)\n"), refused)
 
-    def test_words_in_other_forms_are_the_same_job(self) -> None:
-        banks, debts = (str(path) for path in files_of(CHAIN)[1::2])
-        odd = [self.file("b=-.csv", Path(banks).read_bytes()), self.file("ä d", Path(debts).read_bytes())]
-        toml, journal = self.file("s.toml", '[[scenario]]\nname = "half"\ncut = 500\n'), self.file(
-            "j.csv", "stamp,debtor,creditor,class,to\n1,A,B,1,7\n2,B,C,1,8\n"
-        )
-        jobs = [
+    def jobs(self) -> List[List[str]]:
+        """Each task that reads the chain of three banks, some of them with options."""
+        toml = str(self.file("s.toml", '[[scenario]]\nname = "half"\ncut = 500\n'))
+        journal = self.file("j.csv", "stamp,debtor,creditor,class,to\n1,A,B,1,7\n2,B,C,1,8\n")
+        return [
             ["check"],
             ["clear"],
             ["central"],
             ["defaults", "--workers", "7"],
-            ["stress", "--scenarios", str(toml)],
+            ["stress", "--scenarios", toml],
             ["replay", "--journal", str(journal)],
             ["convert"],
             ["bounds", "--sweeps", "1000"],
@@ -414,14 +412,18 @@ class OtherForms(Case):
             ["breaking"],
             ["impact"],
             ["rescues"],
-            ["outcomes", "--scenarios", str(toml)],
+            ["outcomes", "--scenarios", toml],
             ["cost-bounds", "--keep", "0"],
             ["clear", "--workers", "64", "--sweeps", "1000"],
             ["clear", "--workers", "1", "--sweeps", "1000", "--show", "both"],
             ["clear", "--show", "journal", "--workers", "1"],
         ]
-        for task, *options in jobs:
-            files = ["--banks", banks, "--debts", debts]
+
+    def test_words_in_other_forms_are_the_same_job(self) -> None:
+        banks, debts = (str(path) for path in files_of(CHAIN)[1::2])
+        odd = [self.file("b=-.csv", Path(banks).read_bytes()), self.file("ä d", Path(debts).read_bytes())]
+        files = ["--banks", banks, "--debts", debts]
+        for task, *options in self.jobs():
             wanted = self.printed(task, *files, *options)
             pairs = list(zip(options[::2], options[1::2]))
             joined = [f"{name}={value}" for name, value in pairs]
@@ -436,6 +438,8 @@ class OtherForms(Case):
             ):
                 with self.subTest(words=[str(word) for word in words]):
                     self.assertEqual(self.printed(*words), wanted)
+
+    def test_gen_takes_its_options_in_any_order_and_form(self) -> None:
         self.assertEqual(
             self.printed("gen", "--seed=9", "--size=1000", "--tries=20000"),
             self.printed("gen", "--tries", "20000", "--size", "1000", "--seed", "9"),

@@ -2,6 +2,7 @@
 import re
 import sys
 import unittest
+from typing import List
 
 from common import ROOT
 from test_docs import page_run
@@ -12,7 +13,7 @@ from model import Bank, Debt, Net, pay, share
 TEXT = (ROOT / "docs/THEORY.md").read_text(encoding="utf-8")
 
 
-def table_below(words):
+def table_below(words: str) -> List[List[str]]:
     """The rows of the first table below some words, cell by cell."""
     rows = re.search(r"\n\|.*?\n\|[-|]*\n((?:\|.*\n)+)", TEXT[TEXT.index(words) :])[1]
     return [[cell.strip(" `") for cell in row.strip("|").split("|")] for row in rows.splitlines()]

@@ -5,7 +5,7 @@ import pathlib
 import subprocess
 import unittest
 
-from common import PROGRAM, TWELVE, Case, files_of, needs
+from common import PROGRAM, TWELVE, Case, Word, files_of, needs
 
 COUNTER = """
 #define _GNU_SOURCE
@@ -32,7 +32,7 @@ class Threads(Case):
         source = self.file("count.c", COUNTER)
         subprocess.run(["cc", "-O2", "-shared", "-fPIC", "-o", self.library, source, "-ldl", "-lpthread"], check=True)
 
-    def started(self, *words):
+    def started(self, *words: Word) -> int:
         """How many threads a run starts that ends well."""
         told = self.file("told", "")
         env = dict(os.environ, LD_PRELOAD=str(self.library), THREADS_TOLD=str(told))
@@ -105,7 +105,7 @@ class Threads(Case):
         ]
 
     @staticmethod
-    def a_bank():
+    def a_bank() -> str:
         return (TWELVE / "banks.csv").read_text().splitlines()[1].split(",")[0]
 
 

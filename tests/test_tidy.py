@@ -6,8 +6,9 @@ import subprocess
 import sys
 import tempfile
 from decimal import Decimal
+from typing import Dict, List
 
-from common import ROOT, Case, clearing, files_of, tool
+from common import ROOT, Case, Word, clearing, files_of, tool
 
 from clearing_tools import stress_text, texts
 from clearing_tools.runner import ToolError
@@ -17,17 +18,17 @@ CHAIN = files_of(ROOT / "examples/chain")
 SCENARIOS = '[[scenario]]\nname = " half "\ncut = 500\n\n[[scenario]]\nname = " half "\n'
 
 
-def lines_of(path):
+def lines_of(path: pathlib.Path) -> List[str]:
     return path.read_text(encoding="utf-8").splitlines()
 
 
-def table_of(path):
+def table_of(path: pathlib.Path) -> List[Dict[str, str]]:
     with open(path, encoding="utf-8", newline="") as file:
         return list(csv.DictReader(file))
 
 
 class Tidy(Case):
-    def tidy(self, text, *words):
+    def tidy(self, text: str, *words: Word) -> Dict[str, pathlib.Path]:
         """The files made of a text, by the names of their tables, in a folder of their own."""
         output = pathlib.Path(tempfile.mkdtemp(dir=self.folder)) / "x.y.csv"
         output.write_bytes(text.encode() if isinstance(text, str) else text)

@@ -8,6 +8,7 @@ import itertools
 import math
 import re
 import unittest
+from typing import Any, List, Tuple
 
 from common import PACKAGES, Case
 
@@ -24,17 +25,17 @@ BLIND = {
 TO_XYZ = ((0.4124, 0.3576, 0.1805), (0.2126, 0.7152, 0.0722), (0.0193, 0.1192, 0.9505))
 
 
-def linear(colour):
+def linear(colour: str) -> List[float]:
     parts = [int(colour[at : at + 2], 16) / 255 for at in (1, 3, 5)]
     return [part / 12.92 if part <= 0.04045 else ((part + 0.055) / 1.055) ** 2.4 for part in parts]
 
 
-def contrast(one, two):
+def contrast(one: str, two: str) -> float:
     low, high = sorted(sum(weight * part for weight, part in zip(TO_XYZ[1], linear(colour))) for colour in (one, two))
     return (high + 0.05) / (low + 0.05)
 
 
-def lab(colour, model=BLIND["none"]):
+def lab(colour: str, model: Any = BLIND["none"]) -> Tuple[float, float, float]:
     """The colour in CIE L*a*b*, as one sees it who lacks a kind of cone."""
     seen = [min(1, max(0, sum(a * b for a, b in zip(row, linear(colour))))) for row in model]
     x, y, z = (sum(a * b for a, b in zip(row, seen)) / white for row, white in zip(TO_XYZ, (0.9505, 1, 1.089)))
@@ -42,7 +43,7 @@ def lab(colour, model=BLIND["none"]):
     return 116 * f[1] - 16, 500 * (f[0] - f[1]), 200 * (f[1] - f[2])
 
 
-def distance(one, two):
+def distance(one: Any, two: Any) -> float:
     """CIEDE2000 of two colours in L*a*b*."""
     (l1, a1, b1), (l2, a2, b2) = one, two
     mean = (math.hypot(a1, b1) + math.hypot(a2, b2)) / 2

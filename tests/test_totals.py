@@ -1,4 +1,5 @@
-"""`clearing-from-totals` makes debts of what each bank owes and is owed in all."""
+"""`clearing-from-totals` makes debts of what each bank owes and is owed in all. How its samples are drawn is in
+`test_totals_samples`."""
 import contextlib
 import itertools
 import os
@@ -9,22 +10,24 @@ import shutil
 import subprocess
 import sys
 
-from common import ROOT, Case, needs_modules, python_with, run_of, tool
+from common import ROOT, Case, Word, python_with, run_of, tool
+from imported import TOTALS, TotalsCase
 
-from clearing_tools.imports.networks import chain as chains  # noqa: E402
-from clearing_tools.imports.networks import claims as whole_claims  # noqa: E402
-from clearing_tools.imports import options, summary  # noqa: E402
-from clearing_tools.runner import ToolError  # noqa: E402
+from clearing_tools.imports import options, summary
+from clearing_tools.runner import ToolError
 
-TABLE = "bank,assets,liabilities,cash\nA,100,60,20\nB,50,90,10\nC,70,40,30\nD,30,60,5\n"
+HEAD = "bank,assets,liabilities,cash\n"
 
 
 class Words(Case):
+    """What is asked for before any claim is made: numpy, and columns by their names."""
+
     def test_without_numpy_it_is_said_which_python_was_asked(self):
         # A folder that a package has left behind is no module.
         (self.folder / "left/numpy").mkdir(parents=True)
         script = self.executable("python", f'PYTHONPATH="{self.folder}/left" exec "{sys.executable}" -S "$@"\n')
-        done = tool("clearing-from-totals", self.file("t.csv", TABLE), "--out", self.folder / "out", python=str(script))
+        words = [self.file("t.csv", TOTALS), "--out", self.folder / "out"]
+        done = tool("clearing-from-totals", *words, python=str(script))
         self.assertEqual((done.returncode, done.stdout), (2, ""))
         self.assertRegex(
             done.stderr,
@@ -35,7 +38,7 @@ class Words(Case):
         )
 
     def test_a_stray_quote_is_refused_with_its_row(self):
-        for row, text in [(6, TABLE + 'E,7,7,"1\nF,8,8,2\n'), (3, TABLE.replace("B,", '"B" (Ost),'))]:
+        for row, text in [(6, TOTALS + 'E,7,7,"1\nF,8,8,2\n'), (3, TOTALS.replace("B,", '"B" (Ost),'))]:
             told = f"t.csv row {row}: a quote opens a field and none closes it"
             self.refused("clearing-from-totals", 1, told, self.file("t.csv", text), "--out", self.folder / "out")
 
@@ -99,50 +102,13 @@ class Words(Case):
             self.refused("clearing-from-totals", 1, told, table, "--out", self.folder / "other")
 
 
-@needs_modules("numpy")
-class Totals(Case):
-    def run_of(self, table, *words):
-        return tool(
-            "clearing-from-totals",
-            self.file("t.csv", table),
-            "--out",
-            self.folder / "out",
-            *words,
-            python=python_with("numpy"),
-        )
-
-    def made_of(self, table, *words):
-        done = self.run_of(table, *words)
-        self.assertEqual((done.returncode, done.stdout), (0, ""), done.stderr)
-        return done.stderr
-
-    def refuse(self, message, table, *words, status=1):
-        done = self.run_of(table, *words)
-        self.assertEqual((done.returncode, done.stdout), (status, ""), done.stderr)
-        self.assertIn(message, done.stderr)
-        self.assertFalse((self.folder / "out").exists())
-
-    def debts(self, folder="out"):
-        """The claims of a network that the program takes, by debtor and creditor."""
-        place = self.folder / folder
-        self.printed("check", "--banks", place / "banks.csv", "--debts", place / "debts.csv")
-        rows = [line.split(",") for line in (place / "debts.csv").read_text().split("\n")[1:-1]]
-        return {(row[0], row[1]): int(row[3]) for row in rows}
-
-    def check_totals(self, debts, table, unit=1):
-        for line in table.splitlines()[1:]:
-            name, assets, liabilities = line.split(",")[:3]
-            self.assertEqual(
-                sum(claim for (_, creditor), claim in debts.items() if creditor == name), int(assets) // unit, name
-            )
-            self.assertEqual(
-                sum(claim for (debtor, _), claim in debts.items() if debtor == name), int(liabilities) // unit, name
-            )
+class Methods(TotalsCase):
+    """Claims by each method: entropy, sparse and sample."""
 
     def test_each_method_keeps_every_total(self):
         for method in ("entropy", "sparse", "sample"):
-            told = self.made_of(TABLE, "--method", method)
-            self.check_totals(self.debts(), TABLE)
+            told = self.made_of(TOTALS, "--method", method)
+            self.check_totals(self.debts(), TOTALS)
             made = (
                 f"debts made: {len(self.debts())}; 250 in all; 250 units, the largest {max(self.debts().values())}, "
                 f"in {self.folder}/out\n"
@@ -200,106 +166,6 @@ class Totals(Case):
         for a, b, c, d in itertools.permutations("ABCDE", 4):
             self.assertAlmostEqual(debts[a, c] * debts[b, d] / (debts[a, d] * debts[b, c]), 1, 3)
 
-    def test_sparse_has_few_claims(self):
-        draw = random.Random(3)
-        claims = {
-            (a, b): draw.randrange(1, 900) for a in range(40) for b in range(40) if a != b and draw.random() < 0.2
-        }
-        table = "bank,assets,liabilities,cash\n" + "".join(
-            f"N{n},{sum(c for p, c in claims.items() if p[1] == n)},{sum(c for p, c in claims.items() if p[0] == n)},"
-            "1\n"
-            for n in range(40)
-        )
-        self.made_of(table, "--method", "sparse")
-        # No fewer than banks that owe, and no more than a tree of all sides.
-        self.assertTrue(40 <= len(self.debts()) <= 79, len(self.debts()))
-        self.made_of(table)
-        self.assertGreater(len(self.debts()), 1000)
-
-    def test_samples_are_drawn_from_a_number_each_to_a_folder(self):
-        for method in ("sample", "sparse"):
-            self.made_of(TABLE, "--method", method, "--samples", 6, "--seed", 5, "--steps", 2000)
-            first = [self.debts(f"out/{n}") for n in range(1, 7)]
-            for debts in first:
-                self.check_totals(debts, TABLE)
-            self.assertGreater(len({tuple(debts.items()) for debts in first}), 2)
-            self.made_of(TABLE, "--method", method, "--samples", 6, "--seed", 5, "--steps", 2000)
-            self.assertEqual([self.debts(f"out/{n}") for n in range(1, 7)], first)
-            self.made_of(TABLE, "--method", method, "--samples", 6, "--seed", 6, "--steps", 2000)
-            self.assertNotEqual([self.debts(f"out/{n}") for n in range(1, 7)], first)
-
-    def check_frequencies(self, owes, owed, rounds, steps):
-        """Compares how often networks come with their weights: each claim is there with the probability 0.3, and of a
-        geometric size with the mean that the totals ask for."""
-        size = len(owes)
-        cells = [(a, b) for a in range(size) for b in range(size) if a != b]
-        mean = max(sum(owes) / (0.3 * len(cells)), 1.0)
-        more = 1 - 1 / mean
-        weights = {}
-
-        def visit(at, claims, out, in_):
-            if at == len(cells):
-                if not any(out) and not any(in_):
-                    weight = 1.0
-                    for claim in claims:
-                        weight *= 0.7 if claim == 0 else 0.3 * (1 - more) * more ** (claim - 1)
-                    weights[tuple(claims)] = weight
-                return
-            a, b = cells[at]
-            for claim in range(min(out[a], in_[b]) + 1):
-                out[a] -= claim
-                in_[b] -= claim
-                if b < size - 1 - (a == size - 1) or out[a] == 0:
-                    visit(at + 1, claims + [claim], out, in_)
-                out[a] += claim
-                in_[b] += claim
-
-        visit(0, [], owes[:], owed[:])
-        start = max(weights, key=weights.get)
-        totals = whole_claims.Totals([str(n) for n in range(size)], owes, owed)
-        chain = chains.Chain(
-            totals, 0.3, random.Random(11), {pair: claim for pair, claim in zip(cells, start) if claim}
-        )
-        counts, whole = dict.fromkeys(weights, 0), sum(weights.values())
-        for _ in range(rounds):
-            for _ in range(steps):
-                chain.step()
-            counts[tuple(chain.claim(a, b) for a, b in cells)] += 1
-        for network, weight in weights.items():
-            want = weight / whole
-            self.assertAlmostEqual(counts[network] / rounds, want, delta=6 * (want / rounds) ** 0.5, msg=network)
-        return len(weights)
-
-    def test_samples_come_as_often_as_their_distribution_says(self):
-        # Of three banks there is one cycle, and each move is a new draw; of four there are many.
-        self.assertEqual(self.check_frequencies([12, 9, 10], [11, 10, 10], 6000, 60), 9)
-        self.assertEqual(self.check_frequencies([2, 1, 1], [1, 2, 1], 6000, 60), 2)
-        self.assertGreater(self.check_frequencies([3, 2, 2, 1], [2, 2, 2, 2], 10_000, 25), 20)
-
-    def test_a_move_is_drawn_by_the_weights_of_its_places(self):
-        class Grid:
-            """Draws the middles of so many equal parts, one after another."""
-
-            def __init__(self, parts):
-                self.numbers = ((part + 0.5) / parts for part in range(parts))
-
-            def random(self):
-                return next(self.numbers)
-
-        for up, down in [([3, 5], [4, 4]), ([0, 2], [1, 7]), ([2, 2, 9], [3, 3, 3]), ([1, 0], [1, 1])]:
-            least, most = -min(up), min(down)
-            chain = chains.Chain(whole_claims.Totals(list("ABC"), [4, 4, 4], [4, 4, 4]), 0.3, Grid(20_000), {})
-            odds = chain.none / chain.there
-            weights = {
-                at: odds ** sum(cell == 0 for cell in [*(cell + at for cell in up), *(cell - at for cell in down)])
-                for at in range(least, most + 1)
-            }
-            counts = dict.fromkeys(weights, 0)
-            for _ in range(20_000):
-                counts[chain.drawn(least, most, up, down)] += 1
-            for at, weight in weights.items():
-                self.assertAlmostEqual(counts[at] / 20_000, weight / sum(weights.values()), 3, (up, down, at))
-
     def test_entropy_is_rounded_down_or_up(self):
         draw = random.Random(9)
         claims = {(a, b): draw.choice([0, 0, 0, 1, 1, 2, 3]) for a in range(25) for b in range(25) if a != b}
@@ -320,131 +186,134 @@ class Totals(Case):
         for (a, b), claim in real.items():
             self.assertLess(abs(debts.get((str(a), str(b)), 0) - claim), 1, (a, b))
 
-    def test_it_is_told_whether_the_chain_came_to_rest(self):
-        draw = random.Random(3)
-        for banks, steps, rests in ((40, 100_000, True), (40, 1000, False), (300, 20_000, False), (40, 10, False)):
-            lines = [f"N{n},{draw.randrange(1, 4000)},{draw.randrange(1, 4000)},1\n" for n in range(banks)]
-            told = self.made_of(
-                "bank,assets,liabilities,cash\n" + "".join(lines), "--method", "sample", "--steps", steps
-            )
-            (line,) = [line for line in told.splitlines() if line.startswith("steps of the chain: ")]
-            self.assertRegex(
-                line,
-                rf"^steps of the chain: {steps:,}; [0-9,]+ claims in the third quarter of them, [0-9,]+ in the last",
-            )
-            self.assertEqual(line.endswith(": it has not come to rest, so say more --steps"), not rests, line)
-
-    def test_a_chain_begins_with_about_as_many_claims_as_are_likely(self):
-        draw = random.Random(4)
-        size = 300
-        owes, owed = ([draw.randrange(1, 9000) for _ in range(size)] for _ in range(2))
-        owed[0], owes[0] = owed[0] + max(sum(owes) - sum(owed), 0), owes[0] + max(sum(owed) - sum(owes), 0)
-        totals = whole_claims.Totals(list(range(size)), owes, owed)
-        for density in (0.02, 0.2):
-            claims = chains.begun(totals, density, whole_claims.Draw(1))
-            self.assertAlmostEqual(len(claims) / (size * (size - 1)), density, delta=density / 3)
-            self.assertFalse([pair for pair, claim in claims.items() if pair[0] == pair[1] or claim < 1])
-            for place, want in ((0, owes), (1, owed)):
-                self.assertEqual(
-                    [sum(claim for pair, claim in claims.items() if pair[place] == n) for n in range(size)], want
-                )
-
-    def test_samples_forget_where_the_chain_began(self):
-        draw = random.Random(2)
-        claims = {
-            (a, b): draw.randrange(1, 900) for a in range(20) for b in range(20) if a != b and draw.random() < 0.5
-        }
-        owes, owed = (
-            [sum(claim for pair, claim in claims.items() if pair[place] == n) for n in range(20)] for place in (0, 1)
+    def test_too_many_claims_of_entropy_are_cut_with_their_totals_kept(self):
+        many = "bank,assets,liabilities,cash\n" + "".join(f"N{n},{1000 + n},{1000 + n},{n % 7}\n" for n in range(143))
+        told = self.made_of(many, "--limits", "standard")
+        debts = self.debts()
+        self.check_totals(debts, many)
+        self.assertLessEqual(len(debts), 20_000)
+        self.assertNotIn("limits:", told)
+        self.assertRegex(
+            told,
+            (
+                "claims left out by --most: 306; [0-9,]+ in all; the largest [0-9]+; the others are fitted to the same "
+                "totals\n"
+            ),
         )
-        table = "bank,assets,liabilities,cash\n" + "".join(f"N{n},{owed[n]},{owes[n]},1\n" for n in range(20))
-        for density, steps in ((0.6, 3000), (0.2, 40_000)):
-            self.made_of(table, "--method", "sample", "--samples", 5, "--density", density, "--steps", steps)
-            count = sum(len(self.debts(f"out/{n}")) for n in range(1, 6)) / 5
-            # Of 380 pairs: the totals were not drawn with this density, so that it is met roughly.
-            self.assertAlmostEqual(count / 380, density, delta=0.1)
+        told = self.made_of(TOTALS, "--most", 8)
+        self.assertLessEqual(len(self.debts()), 8)
+        self.check_totals(self.debts(), TOTALS)
+
+    def test_sparse_has_few_claims(self):
+        draw = random.Random(3)
+        claims = {
+            (a, b): draw.randrange(1, 900) for a in range(40) for b in range(40) if a != b and draw.random() < 0.2
+        }
+        table = "bank,assets,liabilities,cash\n" + "".join(
+            f"N{n},{sum(c for p, c in claims.items() if p[1] == n)},{sum(c for p, c in claims.items() if p[0] == n)},"
+            "1\n"
+            for n in range(40)
+        )
+        self.made_of(table, "--method", "sparse")
+        # No fewer than banks that owe, and no more than a tree of all sides.
+        self.assertTrue(40 <= len(self.debts()) <= 79, len(self.debts()))
+        self.made_of(table)
+        self.assertGreater(len(self.debts()), 1000)
+
+    def test_known_claims_stay(self):
+        known = self.file("known.csv", "debtor,creditor,amount\nA,B,31\nC,A,0\nD,C,2\n")
+        for method in ("entropy", "sparse", "sample"):
+            told = self.made_of(TOTALS, "--method", method, "--known", known)
+            self.assertIn("claims that are known, and stay: 3; 33 in all\n", told)
+            debts = self.debts()
+            self.check_totals(debts, TOTALS)
+            self.assertEqual(
+                (debts.get(("A", "B")), debts.get(("C", "A")), debts.get(("D", "C"))), (31, None, 2), method
+            )
+        shutil.rmtree(self.folder / "out")
+        self.refuse(
+            "no network has these totals with the known claims",
+            TOTALS,
+            "--known",
+            self.file("known.csv", "debtor,creditor,amount\nA,B,61\n"),
+        )
+        self.refuse(
+            "known.csv row 2: there is no bank X in the totals",
+            TOTALS,
+            "--known",
+            self.file("known.csv", "debtor,creditor,amount\nA,X,6\n"),
+        )
+
+    def test_a_seed_makes_the_same_networks_for_good(self):
+        # These claims stay as they are in each version and on each machine.
+        sparse = {("A", "C"): 60, ("B", "A"): 60, ("B", "D"): 30, ("C", "A"): 40, ("D", "B"): 50, ("D", "C"): 10}
+        sample = {
+            ("A", "B"): 20,
+            ("A", "C"): 10,
+            ("A", "D"): 30,
+            ("B", "A"): 42,
+            ("B", "C"): 48,
+            ("C", "A"): 40,
+            ("D", "A"): 18,
+            ("D", "B"): 30,
+            ("D", "C"): 12,
+        }
+        for method, want in [("sparse", sparse), ("sample", sample)]:
+            self.made_of(TOTALS, "--method", method, "--seed", 5, "--steps", 500, "--density", 0.9)
+            self.assertEqual(self.debts(), want)
+
+
+class Refused(TotalsCase):
+    """Totals that make no network."""
 
     def test_totals_that_no_network_has_are_refused(self):
-        head = "bank,assets,liabilities,cash\n"
-        told = "liabilities come to 30 and assets to 40: assets are 10 more; add a bank that stands for"
-        self.refuse(told, head + "A,25,10,1\nB,15,20,1\n", "--no-rest")
-        self.refuse(
-            "row 2: A owes 20 and is owed 25, together 5 more than all claims, 40: no bank can owe itself",
-            head + "A,25,20,1\nB,10,10,1\nC,5,10,1\n",
-        )
-        self.refuse(
-            "no column assets; it has claims, debts, cash; say --assets NAME", "bank,claims,debts,cash\nA,1,1,1\n"
-        )
-        self.refuse(
-            "row 2 column assets: 30.445: thousands or decimals?", head + "A,30.445,1,1\nB,1,30.445,1\n", "--round"
-        )
-        self.refuse("1.5 is not a whole number of units", head + "A,1.5,1,1\nB,1,1.5,1\n")
-        self.refuse("row 5: All is a row of totals", head + "A,10,20,1\nB,20,5,1\nC,5,10,7\nAll,35,35,9\n")
-        # A line that is a sum but for one number that is near is one of totals, and no bank that doubles all claims.
+        for message, rows in [
+            (
+                "liabilities come to 30 and assets to 40: assets are 10 more; add a bank that stands for",
+                "A,25,10,1\nB,15,20,1\n",
+            ),
+            (
+                "row 2: A owes 20 and is owed 25, together 5 more than all claims, 40: no bank can owe itself",
+                "A,25,20,1\nB,10,10,1\nC,5,10,1\n",
+            ),
+            ("1.5 is not a whole number of units", "A,1.5,1,1\nB,1,1.5,1\n"),
+            ("row 5: All is a row of totals", "A,10,20,1\nB,20,5,1\nC,5,10,7\nAll,35,35,9\n"),
+            ("a claim of 2,000,000 units, 1,000,000 more than the most", "A,2000000,2000000,1\nB,2000000,2000000,1\n"),
+        ]:
+            with self.subTest(message=message):
+                self.refuse(message, HEAD + rows, *(["--no-rest"] if "add a bank" in message else []))
+
+    def test_words_and_columns_that_do_not_fit_are_refused(self):
+        told = "no column assets; it has claims, debts, cash; say --assets NAME"
+        self.refuse(told, "bank,claims,debts,cash\nA,1,1,1\n")
+        told = "row 2 column assets: 30.445: thousands or decimals?"
+        self.refuse(told, HEAD + "A,30.445,1,1\nB,1,30.445,1\n", "--round")
+        self.refuse("--samples is for sparse and sample", TOTALS, "--samples", 2, status=2)
+
+    def test_a_line_that_is_a_sum_but_for_one_number_is_one_of_totals(self):
+        """It is near, and no bank that doubles all claims."""
+        # The line, the column that is off, what the line says there, and what the others come to.
         for all_, column, says, others in (
             ("1501,1500,30", "assets", "1,501", "1,500"),
             ("1500,1450,30", "liabilities", "1,450", "1,500"),
             ("1500,1500,33", "cash", "33", "30"),
         ):
-            table = f"{head}AT,700,600,10\nBE,300,400,20\nCH,500,500,0\nAll countries,{all_}\n"
-            self.refuse(
-                (
-                    "row 5: All countries is a row of totals: each of its cells is the sum of the others but for what"
-                    " is told below"
-                ),
-                table,
-            )
-            told = (
-                f"row 5 column {column}: All countries says {says}, and the others come to {others}: correct the sheet"
-            )
-            self.refuse(told, table)
-            self.refuse(told, table, "--drop", "All countries")
-        self.refuse(
-            "all claims come to 40,000,000 units: 15,000,000 more than the most, 25,000,000",
-            head + "A,20000000,20000000,1\nB,20000000,20000000,1\n",
-        )
-        self.refuse(
-            "all claims come to 40,000,000 units: 30,000,000 more than the most, 10,000,000",
-            head + "A,20000000,20000000,1\nB,20000000,20000000,1\n",
-            "--limits",
-            "standard",
-        )
-        self.refuse(
-            "a claim of 2,000,000 units, 1,000,000 more than the most",
-            head + "A,2000000,2000000,1\nB,2000000,2000000,1\n",
-        )
-        self.refuse("--samples is for sparse and sample", TABLE, "--samples", 2, status=2)
+            table = f"{HEAD}AT,700,600,10\nBE,300,400,20\nCH,500,500,0\nAll countries,{all_}\n"
+            told = "row 5: All countries is a row of totals: each of its cells is the sum of the others but for what"
+            self.refuse(f"{told} is told below", table)
+            wrong = f"All countries says {says}, and the others come to {others}: correct the sheet"
+            for more in ([], ["--drop", "All countries"]):
+                self.refuse(f"row 5 column {column}: {wrong}", table, *more)
 
-    def test_a_terminal_is_told_how_far_each_method_is(self):
-        for method, told in (
-            ("entropy", b"round of the fit 1 of "),
-            ("sparse", b"run 1 of "),
-            ("sample", b"per cent of the steps 1 of 100"),
-        ):
-            main, other = pty.openpty()
-            words = [
-                self.file("t.csv", TABLE),
-                "--out",
-                self.folder / "out",
-                "--method",
-                method,
-                "--summary",
-                self.folder / "summary.csv",
-            ]
-            running = subprocess.Popen(
-                [python_with("numpy"), str(ROOT / "bin/clearing-from-totals"), *map(str, words)],
-                stdout=subprocess.DEVNULL,
-                stderr=other,
-            )
-            os.close(other)
-            said = b""
-            with contextlib.suppress(OSError):
-                while part := os.read(main, 4096):
-                    said += part
-            os.close(main)
-            self.assertEqual(running.wait(), 0, method)
-            self.assertIn(b"clearing-from-totals: " + told, said)
-            self.assertTrue(said.endswith(b"\r\x1b[K"), method)
+    def test_claims_beyond_the_limits_are_refused_with_how_much_is_too_much(self):
+        table = HEAD + "A,20000000,20000000,1\nB,20000000,20000000,1\n"
+        told = "all claims come to 40,000,000 units:"
+        self.refuse(f"{told} 15,000,000 more than the most, 25,000,000", table)
+        self.refuse(f"{told} 30,000,000 more than the most, 10,000,000", table, "--limits", "standard")
+
+
+class Table(TotalsCase):
+    """What is made of the table: units, a bank for what is missing, and how far the work is."""
 
     def test_a_unit_is_chosen_and_the_sums_are_kept(self):
         table = "bank,assets,liabilities,cash\nA,70000025,60000000,20\nB,40000000,50000050,10\nC,20000050,20000025,30\n"
@@ -464,20 +333,12 @@ class Totals(Case):
         self.assertIn("so that both sums are 3\n", told)
         self.assertEqual(sum(self.debts().values()), 3)
 
-    def refuse_after(self, message, table, *words):
+    def refuse_after(self, message: str, table: str, *words: Word) -> None:
         before = (self.folder / "out/debts.csv").read_bytes()
         done = self.run_of(table, *words)
         self.assertEqual((done.returncode, done.stdout), (1, ""))
         self.assertIn(message, done.stderr)
         self.assertEqual((self.folder / "out/debts.csv").read_bytes(), before)
-
-    def test_a_table_is_not_written_over(self):
-        table = self.file("banks.csv", TABLE)
-        done = tool("clearing-from-totals", table, "--out", self.folder, python=python_with("numpy"))
-        self.assertEqual((done.returncode, done.stdout), (1, ""))
-        self.assertIn("also read", done.stderr)
-        self.assertEqual([path.name for path in self.folder.iterdir()], ["banks.csv"])
-        self.assertEqual(table.read_text(), TABLE)
 
     def test_sums_that_differ_make_a_bank(self):
         head = "bank,assets,liabilities,cash\n"
@@ -500,71 +361,52 @@ class Totals(Case):
         )
         self.assertEqual(sum(claim for (_, creditor), claim in self.debts().items() if creditor == "Abroad"), 10)
 
-    def test_known_claims_stay(self):
-        known = self.file("known.csv", "debtor,creditor,amount\nA,B,31\nC,A,0\nD,C,2\n")
-        for method in ("entropy", "sparse", "sample"):
-            told = self.made_of(TABLE, "--method", method, "--known", known)
-            self.assertIn("claims that are known, and stay: 3; 33 in all\n", told)
-            debts = self.debts()
-            self.check_totals(debts, TABLE)
-            self.assertEqual(
-                (debts.get(("A", "B")), debts.get(("C", "A")), debts.get(("D", "C"))), (31, None, 2), method
+    def test_a_table_is_not_written_over(self):
+        table = self.file("banks.csv", TOTALS)
+        done = tool("clearing-from-totals", table, "--out", self.folder, python=python_with("numpy"))
+        self.assertEqual((done.returncode, done.stdout), (1, ""))
+        self.assertIn("also read", done.stderr)
+        self.assertEqual([path.name for path in self.folder.iterdir()], ["banks.csv"])
+        self.assertEqual(table.read_text(), TOTALS)
+
+    def test_a_terminal_is_told_how_far_each_method_is(self):
+        for method, told in (
+            ("entropy", b"round of the fit 1 of "),
+            ("sparse", b"run 1 of "),
+            ("sample", b"per cent of the steps 1 of 100"),
+        ):
+            main, other = pty.openpty()
+            words = [
+                self.file("t.csv", TOTALS),
+                "--out",
+                self.folder / "out",
+                "--method",
+                method,
+                "--summary",
+                self.folder / "summary.csv",
+            ]
+            running = subprocess.Popen(
+                [python_with("numpy"), str(ROOT / "bin/clearing-from-totals"), *map(str, words)],
+                stdout=subprocess.DEVNULL,
+                stderr=other,
             )
-        shutil.rmtree(self.folder / "out")
-        self.refuse(
-            "no network has these totals with the known claims",
-            TABLE,
-            "--known",
-            self.file("known.csv", "debtor,creditor,amount\nA,B,61\n"),
-        )
-        self.refuse(
-            "known.csv row 2: there is no bank X in the totals",
-            TABLE,
-            "--known",
-            self.file("known.csv", "debtor,creditor,amount\nA,X,6\n"),
-        )
-
-    def test_too_many_claims_of_entropy_are_cut_with_their_totals_kept(self):
-        many = "bank,assets,liabilities,cash\n" + "".join(f"N{n},{1000 + n},{1000 + n},{n % 7}\n" for n in range(143))
-        told = self.made_of(many, "--limits", "standard")
-        debts = self.debts()
-        self.check_totals(debts, many)
-        self.assertLessEqual(len(debts), 20_000)
-        self.assertNotIn("limits:", told)
-        self.assertRegex(
-            told,
-            (
-                "claims left out by --most: 306; [0-9,]+ in all; the largest [0-9]+; the others are fitted to the same "
-                "totals\n"
-            ),
-        )
-        told = self.made_of(TABLE, "--most", 8)
-        self.assertLessEqual(len(self.debts()), 8)
-        self.check_totals(self.debts(), TABLE)
-
-    def test_a_seed_makes_the_same_networks_for_good(self):
-        # These claims stay as they are in each version and on each machine.
-        sparse = {("A", "C"): 60, ("B", "A"): 60, ("B", "D"): 30, ("C", "A"): 40, ("D", "B"): 50, ("D", "C"): 10}
-        sample = {
-            ("A", "B"): 20,
-            ("A", "C"): 10,
-            ("A", "D"): 30,
-            ("B", "A"): 42,
-            ("B", "C"): 48,
-            ("C", "A"): 40,
-            ("D", "A"): 18,
-            ("D", "B"): 30,
-            ("D", "C"): 12,
-        }
-        for method, want in [("sparse", sparse), ("sample", sample)]:
-            self.made_of(TABLE, "--method", method, "--seed", 5, "--steps", 500, "--density", 0.9)
-            self.assertEqual(self.debts(), want)
+            os.close(other)
+            said = b""
+            with contextlib.suppress(OSError):
+                while part := os.read(main, 4096):
+                    said += part
+            os.close(main)
+            self.assertEqual(running.wait(), 0, method)
+            self.assertIn(b"clearing-from-totals: " + told, said)
+            self.assertTrue(said.endswith(b"\r\x1b[K"), method)
 
 
 class Kept(Case):
+    """What of the sheet is kept in a case."""
+
     def test_a_long_sheet_is_kept_in_the_case_of_each_sample(self):
         """The limits are those of what the program reads; a copy of a sheet may be longer."""
-        sheet = self.file("big.csv", TABLE.replace("D,30", "D" + " " * 9_000_000 + ",30"))
+        sheet = self.file("big.csv", TOTALS.replace("D,30", "D" + " " * 9_000_000 + ",30"))
         for more, folders in (([], ["one"]), (["--samples", 2], ["two/1", "two/2"])):
             place = self.folder / folders[0].partition("/")[0]
             self.told(

@@ -5,6 +5,7 @@ import ast
 import collections
 import re
 import unittest
+from typing import Iterator, Tuple
 
 from common import PACKAGES
 
@@ -29,7 +30,7 @@ ALONE = {
 }
 
 
-def functions():
+def functions() -> Iterator[Tuple[str, str, str, str]]:
     """The functions of the packages: the file, the name, the tree of the body and the text, both without what the
     function is for."""
     for path in sorted(PACKAGES.rglob("*.py")):

@@ -4,6 +4,7 @@ import pathlib
 import re
 import subprocess
 import unittest
+from typing import List
 
 from common import PROGRAM, ROOT, needs
 
@@ -22,7 +23,7 @@ SHOWN = re.findall(
 PLAIN = {"functions"}
 
 
-def unexplained(lines):
+def unexplained(lines: List[str]) -> List[str]:
     """The words of the last lines of a build that the table does not have; a value counts where the table has one."""
     told = dict(word.split("=", 1) for word in SHOWN if re.fullmatch(r"\w[\w-]*=\S+", word)) | {
         word: None for word in SHOWN if " " not in word

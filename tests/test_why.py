@@ -5,6 +5,7 @@ import random
 import re
 import subprocess
 import sys
+from typing import List
 
 from common import PROGRAM, ROOT, Case, needs_checkout, tool
 from odd_names import ODD_NAMES, all_names
@@ -108,10 +109,10 @@ STRAY = [
 class MadeLines:
     """Makes a line of words that is understood, and then up to a few changes of it."""
 
-    def __init__(self, seed):
+    def __init__(self, seed: int) -> None:
         self.random = random.Random(seed)
 
-    def words(self):
+    def words(self) -> List[str]:
         pick = self.random
         task = pick.choice(list(why.TASKS))
         _, required, allowed = why.TASKS[task]
@@ -127,7 +128,7 @@ class MadeLines:
             self.change(parts)
         return [word for part in parts for word in part]
 
-    def change(self, parts):
+    def change(self, parts: List[List[str]]) -> None:
         pick = self.random
         at = pick.randrange(len(parts) + 1)
         kind = pick.randrange(6)
@@ -219,14 +220,14 @@ FAULTS = [
 
 
 class Why(Case):
-    def is_understood(self, words):
+    def is_understood(self, words: List[str]) -> bool:
         """Whether the program understands some words: it ends with 2 where it does not."""
         run = [PROGRAM, *(os.fsencode(word) for word in words)]
         done = subprocess.run(run, cwd=self.folder, stdin=subprocess.DEVNULL, capture_output=True)
         self.assertIn(done.returncode, (0, 2, 3), words)
         return done.returncode != 2
 
-    def compare(self, lines):
+    def compare(self, lines: List[List[str]]) -> int:
         """Compares with the program on some lines, and says how many are understood."""
         with concurrent.futures.ThreadPoolExecutor(8) as pool:
             found = list(pool.map(self.is_understood, lines))

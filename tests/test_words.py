@@ -1,7 +1,9 @@
 """The words that results are said in: nothing that no result says stands on a page, in a picture or in a document."""
 import ast
+import pathlib
 import re
 import unittest
+from typing import Any, Iterator
 
 from common import PACKAGES, ROOT, needs_checkout
 
@@ -11,7 +13,7 @@ TOOLS = PACKAGES / "clearing_tools"
 SEEN = ("report", "drawing", "desk", "labels.py", "money.py")
 
 
-def files(*kinds):
+def files(*kinds: str) -> Iterator[pathlib.Path]:
     """The files of the rooms whose texts stand on a page or in a picture."""
     for name in SEEN:
         place = TOOLS / name
@@ -20,7 +22,7 @@ def files(*kinds):
                 yield path
 
 
-def texts_of(path):
+def texts_of(path: pathlib.Path) -> Iterator[Any]:
     """The texts of a Python file that people may read: constants and the fixed parts of others, without what
     documents the code."""
     tree = ast.parse(path.read_text(encoding="utf-8"))

@@ -6,6 +6,7 @@ import re
 import time
 import unittest
 import zipfile
+from typing import Any, Dict, List, Tuple
 
 from common import Case, needs_packages
 
@@ -17,7 +18,7 @@ FLIPS = 500
 SHEET, STRINGS, STYLES, BOOK = "xl/worksheets/sheet1.xml", "xl/sharedStrings.xml", "xl/styles.xml", "xl/workbook.xml"
 
 
-def xlsx_of(rows=ROWS):
+def xlsx_of(rows: Any = ROWS) -> bytes:
     """A workbook of the form .xlsx, as openpyxl writes it."""
     import openpyxl
 
@@ -30,12 +31,12 @@ def xlsx_of(rows=ROWS):
     return sharing(data.getvalue())
 
 
-def sharing(data):
+def sharing(data: bytes) -> bytes:
     """The same workbook with the texts of its cells in a part of their own, as spreadsheets write it."""
     parts, texts = parts_of(data), []
     kind = "application/vnd.openxmlformats-officedocument.spreadsheetml.sharedStrings+xml"
 
-    def share(found):
+    def share(found: Any) -> str:
         texts.append(found[1])
         return f' t="s"><v>{len(texts) - 1}</v></c>'
 
@@ -46,7 +47,7 @@ def sharing(data):
     return of_parts({**parts, SHEET: sheet.encode(), STRINGS: shared.encode(), "[Content_Types].xml": types.encode()})
 
 
-def ods_of(rows=ROWS):
+def ods_of(rows: Any = ROWS) -> bytes:
     """A workbook of the form .ods, as odfpy writes it."""
     from odf import opendocument, table, text
 
@@ -66,13 +67,13 @@ def ods_of(rows=ROWS):
     return data.getvalue()
 
 
-def parts_of(data):
+def parts_of(data: bytes) -> Dict[str, bytes]:
     """The parts of a workbook by their names."""
     with zipfile.ZipFile(io.BytesIO(data)) as archive:
         return {info.filename: archive.read(info) for info in archive.infolist()}
 
 
-def of_parts(parts):
+def of_parts(parts: Dict[str, bytes]) -> bytes:
     """A workbook of parts."""
     data = io.BytesIO()
     with zipfile.ZipFile(data, "w", zipfile.ZIP_DEFLATED) as archive:
@@ -87,7 +88,7 @@ class Books(Case):
         super().setUp()
         self.place = self.folder / "book"
 
-    def rows(self, data):
+    def rows(self, data: bytes) -> Tuple[str, Any, Any]:
         """What is read of a workbook: rows, each cell its text, value, fault and currency."""
         self.place.write_bytes(data)
         title, rows, hidden = workbook.sheet_rows(str(self.place), None, "--sheet")
@@ -97,13 +98,13 @@ class Books(Case):
         ]
         return title, kept, hidden
 
-    def refuse(self, data, told):
+    def refuse(self, data: bytes, told: str) -> None:
         with self.assertRaises(SheetError) as fault:
             self.rows(data)
         self.assertIn(told, str(fault.exception))
         self.assertLess(len(str(fault.exception)), 1000)
 
-    def changed(self, data, part, old, new):
+    def changed(self, data: bytes, part: str, old: str, new: str) -> bytes:
         parts = parts_of(data)
         self.assertRegex(parts[part].decode(), old)
         return of_parts({**parts, part: re.sub(old, lambda _: new, parts[part].decode(), count=1).encode()})
@@ -201,7 +202,7 @@ class Unseen(Books):
 class Large(Books):
     """What is small and would take much."""
 
-    def quick(self, data, told):
+    def quick(self, data: bytes, told: Any) -> None:
         self.assertLess(len(data), 60_000)
         start = time.process_time()
         self.refuse(data, told)
@@ -266,7 +267,7 @@ class Merged(Books):
 
     HEAD = [["Bank", "Claims on", "", "Cash"], ["", "A", "B", ""], ["A", 0, 6, 3], ["B", 2, 0, 4], ["", 1, 1, ""]]
 
-    def shown(self, data):
+    def shown(self, data: bytes) -> List[List[str]]:
         return [[cell for cell, *_ in row] for _, row in self.rows(data)[1]]
 
     def test_a_text_stands_in_each_row_of_a_merged_cell_and_an_amount_once(self):
@@ -289,7 +290,7 @@ class Merged(Books):
             ods = self.changed(ods, "content.xml", f"<table:table-cell([^>]*)><text:p{old}", None)
         self.assertEqual(self.shown(ods), want)
 
-    def changed(self, data, part, old, new):
+    def changed(self, data: bytes, part: str, old: str, new: str) -> bytes:
         if new is not None:
             return super().changed(data, part, old, new)
         parts = parts_of(data)
@@ -301,7 +302,7 @@ class Merged(Books):
 class Flipped(Books):
     """Files with a byte that was changed on the way."""
 
-    def fuzz(self, data, seed):
+    def fuzz(self, data: bytes, seed: int) -> None:
         """Flips a bit at a time, each in the file as it was, and prints how many files were refused."""
         want, draw, refused = self.rows(data), random.Random(seed), 0
         for _ in range(FLIPS):

@@ -6,8 +6,10 @@ import re
 import subprocess
 import sys
 import zipfile
+from typing import Any, Dict
 
-from common import ROOT, Case, files_of, needs, needs_modules, python_with, tool
+from common import ROOT, Case, Word, files_of, needs, needs_modules, python_with, tool
+from imported import ImportCase
 
 PYTHON = python_with("openpyxl") or sys.executable
 BANKS = "name,cash,rule\nA,3,webster\nB,4,webster\nC,5,webster\n"
@@ -15,7 +17,7 @@ DEBTS = "debtor,creditor,class,claim\nA,B,1,6\nA,C,1,4\nB,A,1,2\nB,C,1,8\nC,A,1,
 MATRIX = [["", "A", "B", "C", "cash"], ["A", 0, 6, 4, 3], ["B", 2, None, 8, 4], ["C", 3, 1, 0, 5]]
 
 
-def written(path, sheets, change=""):
+def written(path: pathlib.Path, sheets: Dict[str, Any], change: str = "") -> pathlib.Path:
     """Writes a workbook by openpyxl: its sheets by their titles, each a list of rows; then a change in Python of
     `book`."""
     script = f"import datetime, openpyxl\nbook = openpyxl.Workbook()\nbook.remove(book.active)\nsheets = {sheets!r}\n"
@@ -28,25 +30,20 @@ def written(path, sheets, change=""):
 
 
 @needs_modules("openpyxl")
-class Workbooks(Case):
-    def setUp(self):
-        super().setUp()
-        self.banks, self.debts = self.folder / "banks.csv", self.folder / "debts.csv"
-        self.files = ["--banks", self.banks, "--debts", self.debts]
-
-    def take(self, *words, name="clearing-from-matrix"):
+class Workbooks(ImportCase):
+    def take(self, *words: Word, name: str = "clearing-from-matrix") -> str:
         return self.told(name, *words, *self.files, python=PYTHON)
 
-    def refuse(self, message, *words, name="clearing-from-matrix", status=1):
+    def refuse(self, message: str, *words: Word, name: str = "clearing-from-matrix", status: int = 1) -> None:
         done = tool(name, *words, *self.files, python=PYTHON)
         self.assertEqual((done.returncode, done.stdout), (status, ""), done.stderr)
         self.assertIn(message, done.stderr)
-        self.assertFalse(self.banks.exists() or self.debts.exists())
+        self.nothing_made()
 
-    def check(self, banks=BANKS, debts=DEBTS):
-        self.assertEqual((self.banks.read_text(), self.debts.read_text()), (banks, debts))
-        self.printed("check", *self.files)
-        self.banks.unlink(), self.debts.unlink()
+    def check(self, banks: str = BANKS, debts: str = DEBTS) -> None:
+        """The two files that were made are these, by default those of the matrix; then they are taken away."""
+        super().check(banks, debts)
+        self.begin_anew()
 
     def test_a_matrix_of_a_workbook_is_that_of_its_text(self):
         book = written(self.folder / "m.xlsx", {"Claims": MATRIX})
@@ -120,7 +117,7 @@ class Workbooks(Case):
             book,
         )
 
-    def saved_by_libreoffice(self, form, folder, *books):
+    def saved_by_libreoffice(self, form: str, folder: pathlib.Path, *books: pathlib.Path) -> None:
         """What LibreOffice makes of these books in this form, in this folder."""
         command = ["nice", "-n", "10", "soffice", f"-env:UserInstallation=file://{self.folder}/profile", "--headless"]
         subprocess.run([*command, "--convert-to", form, "--outdir", folder, *books], check=True, capture_output=True)
@@ -273,7 +270,7 @@ class Workbooks(Case):
                 self.take(book)
                 self.check()
 
-    def made_of(self, book, parts, whole=True):
+    def made_of(self, book: pathlib.Path, parts: Any, whole: bool = True) -> None:
         with zipfile.ZipFile(book, "w", zipfile.ZIP_DEFLATED) as archive:
             for part, content in parts.items():
                 archive.writestr(part, content)
@@ -297,7 +294,7 @@ class Made(Case):
 
     HUB = files_of(ROOT / "examples/hub")
 
-    def sheets(self, path):
+    def sheets(self, path: pathlib.Path) -> Any:
         """The sheets of a workbook by their titles: what stands in the pane that is frozen, and the rows, each cell its
         kind and value."""
         script = (

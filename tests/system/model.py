@@ -6,6 +6,7 @@ that is large the divisions and the payments are those of quick.py.
 """
 import functools
 from collections import namedtuple
+from typing import Any, Callable, Dict, Iterator, List, Optional, Sequence, Tuple
 
 import quick
 
@@ -13,6 +14,8 @@ RULES = ["order", "equal", "losses", "jefferson", "webster", "adams"]
 Bank = namedtuple("Bank", "name cash rule outside")
 Debt = namedtuple("Debt", "debtor creditor cls claim")
 Scenario = namedtuple("Scenario", "name cut losses")
+Raises = List[Tuple[int, int, int]]
+"""The raises of a journal: of each its stamp, the place of its debt, and what is then paid on that."""
 Limits = namedtuple("Limits", "banks debts owed size")
 # How many banks, debts and units owed a network has at most, and how many bytes each of its files, by the words of
 # `--limits`.
@@ -26,24 +29,24 @@ KEPT = "rows", "columns", "owed", "claims", "classes", "divisions", "large"
 
 class Net(namedtuple("Net", "banks debts")):
     @functools.cached_property
-    def large(self):
+    def large(self) -> bool:
         """Whether quick.py divides and pays."""
         return len(self.banks) > 300 or len(self.debts) > 2_000 or sum(self.owed) > 100_000
 
     @functools.cached_property
-    def divisions(self):
+    def divisions(self) -> List[Any]:
         """How each bank divides, by quick.py."""
         rules = [bank.rule for bank in self.banks]
         return [quick.Division(*known) for known in zip(rules, self.claims, self.classes)]
 
-    def with_banks(self, banks):
+    def with_banks(self, banks: List[Bank]) -> "Net":
         """The same debts, and banks that differ in cash alone."""
         other = Net(banks, self.debts)
         other.__dict__.update({name: value for name, value in self.__dict__.items() if name in KEPT})
         return other
 
     @functools.cached_property
-    def rows(self):
+    def rows(self) -> List[List[int]]:
         """The places of the debts that each bank owes, in file order."""
         rows = [[] for _ in self.banks]
         for x, debt in enumerate(self.debts):
@@ -51,7 +54,7 @@ class Net(namedtuple("Net", "banks debts")):
         return rows
 
     @functools.cached_property
-    def columns(self):
+    def columns(self) -> List[List[int]]:
         """The places of the debts that are owed to each bank."""
         columns = [[] for _ in self.banks]
         for x, debt in enumerate(self.debts):
@@ -59,19 +62,19 @@ class Net(namedtuple("Net", "banks debts")):
         return columns
 
     @functools.cached_property
-    def owed(self):
+    def owed(self) -> List[int]:
         return [sum(self.debts[x].claim for x in places) for places in self.rows]
 
     @functools.cached_property
-    def claims(self):
+    def claims(self) -> List[Tuple[int, ...]]:
         return [tuple(self.debts[x].claim for x in places) for places in self.rows]
 
     @functools.cached_property
-    def classes(self):
+    def classes(self) -> List[Tuple[int, ...]]:
         return [tuple(self.debts[x].cls for x in places) for places in self.rows]
 
 
-def refusal(net, by, sizes):
+def refusal(net: Net, by: str, sizes: Sequence[int]) -> Optional[str]:
     """The message of a run that reads a network, from files of so many bytes without a blank record, that passes these
     limits; None within them."""
     limits, owed = LIMITS[by], 0
@@ -101,7 +104,7 @@ GOES_BEFORE = {
 
 
 @functools.lru_cache(maxsize=None)
-def units_in_turn(rule, claims):
+def units_in_turn(rule: str, claims: Tuple[int, ...]) -> List[int]:
     """Which debt gets each unit, one after another, until all are met."""
     given, turns, goes_before = [0] * len(claims), [], GOES_BEFORE[rule]
     while given != list(claims):
@@ -112,7 +115,7 @@ def units_in_turn(rule, claims):
     return turns
 
 
-def award(rule, claims, units):
+def award(rule: str, claims: Sequence[int], units: int) -> Sequence[int]:
     if units in (0, sum(claims)):
         return claims if units else [0] * len(claims)
     turns = units_in_turn(rule, tuple(claims))[:units]
@@ -120,7 +123,7 @@ def award(rule, claims, units):
 
 
 @functools.lru_cache(maxsize=None)
-def share(rule, claims, classes, units):
+def share(rule: str, claims: Tuple[int, ...], classes: Tuple[int, ...], units: int) -> List[int]:
     shares = [0] * len(claims)
     for cls in range(1, 10):
         places = [x for x in range(len(claims)) if classes[x] == cls]
@@ -131,7 +134,7 @@ def share(rule, claims, classes, units):
     return shares
 
 
-def forget():
+def forget() -> None:
     """Lets go of what was divided, so that many networks take no more memory than one."""
     units_in_turn.cache_clear()
     share.cache_clear()
@@ -140,23 +143,23 @@ def forget():
 # Payments.
 
 
-def estate(net, paid, i):
+def estate(net: Net, paid: List[int], i: int) -> int:
     return net.banks[i].cash + sum(paid[x] for x in net.columns[i])
 
 
-def due(net, i):
+def due(net: Net, i: int) -> int:
     return net.owed[i] + net.banks[i].outside
 
 
-def worth(net, i):
+def worth(net: Net, i: int) -> int:
     return net.banks[i].cash + sum(net.debts[x].claim for x in net.columns[i])
 
 
-def kept(net, keep, i, has):
+def kept(net: Net, keep: int, i: int, has: int) -> int:
     return has if has >= due(net, i) else has * keep // 1000
 
 
-def pays(net, paid, i, keep=1000):
+def pays(net: Net, paid: List[int], i: int, keep: int = 1000) -> List[int]:
     """What a bank pays on each of its debts, where so many thousandths are kept of an estate in default."""
     units = max(0, kept(net, keep, i, estate(net, paid, i)) - net.banks[i].outside)
     if net.large:
@@ -164,7 +167,7 @@ def pays(net, paid, i, keep=1000):
     return share(net.banks[i].rule, net.claims[i], net.classes[i], units)
 
 
-def pay(net, paid, keep=1000):
+def pay(net: Net, paid: List[int], keep: int = 1000) -> List[int]:
     """What all banks pay at once."""
     after = [0] * len(net.debts)
     for i in range(len(net.banks)):
@@ -173,7 +176,7 @@ def pay(net, paid, keep=1000):
     return after
 
 
-def put(net, paid, may, x, to, keep=1000):
+def put(net: Net, paid: List[int], may: List[int], x: int, to: int, keep: int = 1000) -> None:
     """Pays so much on a debt. What the others may pay stays as it was, but for what its creditor may."""
     paid[x] = to
     creditor = net.debts[x].creditor
@@ -181,7 +184,7 @@ def put(net, paid, may, x, to, keep=1000):
         may[y] = given
 
 
-def least(net, keep=1000, start=None):
+def least(net: Net, keep: int = 1000, start: Optional[List[int]] = None) -> List[int]:
     """Raises one debt as long as its debtor's rule gives more: by one unit, and by all of it where much is owed.
     Begins with nothing paid, or with payments that are known to be no more than the least."""
     if net.large:
@@ -206,7 +209,7 @@ def least(net, keep=1000, start=None):
     return paid
 
 
-def falling(net, keep=1000):
+def falling(net: Net, keep: int = 1000) -> Tuple[List[int], List[int]]:
     """The greatest payments, found round by round on the way down from all debts paid in full, and the round in which
     each bank is short first, or 0."""
     if net.large:
@@ -219,34 +222,34 @@ def falling(net, keep=1000):
     return lists[-1], [wave(net, lists, i) for i in range(len(net.banks))]
 
 
-def wave(net, lists, i):
+def wave(net: Net, lists: List[List[int]], i: int) -> int:
     short = [n for n, paid in enumerate(lists) if estate(net, paid, i) < due(net, i)]
     return short[0] + 1 if short else 0
 
 
-def state(net, paid, i):
+def state(net: Net, paid: List[int], i: int) -> str:
     outside = net.banks[i].outside
     if sum(paid[x] for x in net.rows[i]) == net.owed[i] and min(outside, estate(net, paid, i)) == outside:
         return "sound"
     return "fundamental" if worth(net, i) < due(net, i) else "contagion"
 
 
-def with_cash(net, cash_of):
+def with_cash(net: Net, cash_of: Callable[[int, Bank], int]) -> "Net":
     return net.with_banks([bank._replace(cash=cash_of(i, bank)) for i, bank in enumerate(net.banks)])
 
 
-def with_cash_at(net, i, cash):
+def with_cash_at(net: Net, i: int, cash: int) -> "Net":
     """The network in which one bank has other cash."""
     banks = list(net.banks)
     banks[i] = banks[i]._replace(cash=cash)
     return net.with_banks(banks)
 
 
-def added(net, i, sum_added):
+def added(net: Net, i: int, sum_added: int) -> "Net":
     return with_cash_at(net, i, net.banks[i].cash + sum_added)
 
 
-def rescue(net, i, low=None):
+def rescue(net: Net, i: int, low: Optional[List[int]] = None) -> Tuple[int, int, List[int]]:
     """The least sum that saves the bank i, and what it lacks with a unit less: all sums are tried, from 0 on. With
     more cash no less is paid, so each begins with what was paid before."""
     if net.large:
@@ -262,7 +265,7 @@ def rescue(net, i, low=None):
         sum_added += 1
 
 
-def rescue_by_halves(net, i, low):
+def rescue_by_halves(net: Net, i: int, low: List[int]) -> Tuple[int, int, List[int]]:
     """The same by halves between a sum that does not save the bank and one that does: with more cash it is no worse
     off."""
     if state(net, low, i) == "sound":
@@ -280,12 +283,12 @@ def rescue_by_halves(net, i, low):
     return saves, lacks, quick.least(added(net, i, saves), start=paid, richer=[i])
 
 
-def shocked(net, scenario):
+def shocked(net: Net, scenario: Scenario) -> "Net":
     losses = dict(scenario.losses)
     return with_cash(net, lambda i, bank: max(0, bank.cash - bank.cash * scenario.cut // 1000 - losses.get(i, 0)))
 
 
-def breaking(net):
+def breaking(net: Net) -> List[Tuple[int, str]]:
     """The least cut that breaks each bank, and its state then: all cuts are tried, from the greatest down. A milder
     one lowers no payment, so each begins with what was paid before. Cuts that leave the same cash leave the same."""
     found, paid, before, states = [(1001, "sound")] * len(net.banks), None, None, []
@@ -298,7 +301,7 @@ def breaking(net):
     return found
 
 
-def ruins(net):
+def ruins(net: Net) -> Iterator[Tuple["Net", List[int]]]:
     """Of each bank the network in which it has no cash, and the least payments there."""
     banks = range(len(net.banks))
     if net.large:
@@ -309,7 +312,7 @@ def ruins(net):
         yield ruined, least(ruined)
 
 
-def ruins_by_blocks(net, banks):
+def ruins_by_blocks(net: Net, banks: Any) -> Iterator[Tuple["Net", List[int]]]:
     """The same by blocks of banks: each clearing begins with what is paid where all of the block have no cash."""
     size = int(len(banks) ** 0.5)
     for first in range(0, len(banks), size):
@@ -320,12 +323,12 @@ def ruins_by_blocks(net, banks):
             yield ruined, quick.least(ruined, start=start, richer=[i for i in block if i != j])
 
 
-def keeps(net, paid, i):
+def keeps(net: Net, paid: List[int], i: int) -> int:
     """What a bank does not pay on its debts."""
     return estate(net, paid, i) - sum(paid[x] for x in net.rows[i])
 
 
-def verdict(net, raises):
+def verdict(net: Net, raises: Raises) -> Tuple[str, int, List[int]]:
     """The verdict on raises (stamp, debt, to), as it is printed, its status, and the payments at its end."""
     paid, last, has = [0] * len(net.debts), 0, [bank.cash for bank in net.banks]
     at = {x: place for places in net.rows for place, x in enumerate(places)}
@@ -352,21 +355,21 @@ def verdict(net, raises):
 # Texts.
 
 
-def line(*fields):
+def line(*fields: object) -> str:
     return ",".join(str(field) for field in fields) + "\n"
 
 
-def debt_fields(net, debt):
+def debt_fields(net: Net, debt: Debt) -> Tuple[str, str, int]:
     return net.banks[debt.debtor].name, net.banks[debt.creditor].name, debt.cls
 
 
-def payments_text(net, paid):
+def payments_text(net: Net, paid: List[int]) -> str:
     return line("debtor", "creditor", "class", "claim", "paid") + "".join(
         line(*debt_fields(net, debt), debt.claim, paid[x]) for x, debt in enumerate(net.debts)
     )
 
 
-def defaults_text(net, paid):
+def defaults_text(net: Net, paid: List[int]) -> str:
     shown = any(bank.outside for bank in net.banks)
     text = line("bank", "estate", *(["outside_paid"] if shown else []), "paid", "owed", "equity", "state")
     totals, defaults = [0] * 5, 0
@@ -381,11 +384,11 @@ def defaults_text(net, paid):
     return text + line("total", *(totals if shown else totals[:1] + totals[2:]), defaults) + cash_line(net)
 
 
-def cash_line(net):
+def cash_line(net: Net) -> str:
     return line("cash", sum(bank.cash for bank in net.banks))
 
 
-def bounds_text(net):
+def bounds_text(net: Net) -> str:
     low, (greatest, waves) = least(net), falling(net)
     text = line("debtor", "creditor", "class", "claim", "least", "greatest")
     for x, debt in enumerate(net.debts):
@@ -399,7 +402,7 @@ def bounds_text(net):
     return text
 
 
-def cost_standing(net, keep, paid, i):
+def cost_standing(net: Net, keep: int, paid: List[int], i: int) -> Tuple[List[int], str]:
     """What a bank has, loses, pays outside, pays on its debts and keeps, and its state."""
     has = estate(net, paid, i)
     left = kept(net, keep, i, has)
@@ -408,7 +411,7 @@ def cost_standing(net, keep, paid, i):
     return [has, has - left, outside, on_debts, left - outside - on_debts], health
 
 
-def costs_text(net, keep):
+def costs_text(net: Net, keep: int) -> str:
     paid = least(net, keep)
     text = payments_text(net, paid) + "\n" + line("bank", "estate", "lost", "outside_paid", "paid", "equity", "state")
     totals, defaults = [0] * 5, 0
@@ -420,7 +423,7 @@ def costs_text(net, keep):
     return text + line("total", *totals, defaults) + cash_line(net)
 
 
-def cost_bounds_text(net, keep):
+def cost_bounds_text(net: Net, keep: int) -> str:
     ends = least(net, keep), falling(net, keep)[0]
     text = line("debtor", "creditor", "class", "claim", "least", "greatest")
     for x, debt in enumerate(net.debts):
@@ -437,13 +440,13 @@ def cost_bounds_text(net, keep):
     return text
 
 
-def breaking_text(net):
+def breaking_text(net: Net) -> str:
     return line("bank", "cut", "state") + "".join(
         line(bank.name, *told) for bank, told in zip(net.banks, breaking(net))
     )
 
 
-def impact_text(net):
+def impact_text(net: Net) -> str:
     paid, first, second = (
         least(net),
         line("bank", "cash", "own", "others", "falls"),
@@ -462,7 +465,7 @@ def impact_text(net):
     return first + "\n" + second
 
 
-def rescues_text(net, found):
+def rescues_text(net: Net, found: Dict[int, Tuple[int, int, List[int]]]) -> str:
     """`found` has what rescue() tells of each bank in default."""
     paid, first, second = least(net), line("bank", "added", "short", "also_saved", "still_short"), line("bank", "saves")
     fallen = [i for i in range(len(net.banks)) if state(net, paid, i) != "sound"]
@@ -481,7 +484,7 @@ def rescues_text(net, found):
     return first + "\n" + second
 
 
-def outcomes_text(net, scenarios):
+def outcomes_text(net: Net, scenarios: List[Scenario]) -> str:
     text = line("scenario", "cash", "paid", "outside_paid", "equity", "defaults", "fundamental")
     banks = range(len(net.banks))
     fallen, own = [0] * len(banks), [0] * len(banks)
@@ -501,12 +504,12 @@ def outcomes_text(net, scenarios):
     return text + "".join(line(bank.name, fallen[i], own[i]) for i, bank in enumerate(net.banks))
 
 
-def rescue_text(net, i, low=None):
+def rescue_text(net: Net, i: int, low: Optional[List[int]] = None) -> str:
     sum_added, lacks, paid = rescue(net, i, low)
     return line("rescue", net.banks[i].name, sum_added) + line("short", lacks) + "\n" + payments_text(net, paid)
 
 
-def stress_text(net, scenarios):
+def stress_text(net: Net, scenarios: List[Scenario]) -> str:
     blocks = []
     for scenario in scenarios:
         left = shocked(net, scenario)
@@ -515,36 +518,36 @@ def stress_text(net, scenarios):
     return "\n".join(blocks)
 
 
-def banks_text(net, second):
+def banks_text(net: Net, second: bool) -> str:
     extra = lambda bank: [bank.outside] if second else []
     return line("name", "cash", "rule", *(["outside"] if second else [])) + "".join(
         line(bank.name, bank.cash, bank.rule, *extra(bank)) for bank in net.banks
     )
 
 
-def debts_text(net):
+def debts_text(net: Net) -> str:
     return line("debtor", "creditor", "class", "claim") + "".join(
         line(*debt_fields(net, debt), debt.claim) for debt in net.debts
     )
 
 
-def counts_text(net):
+def counts_text(net: Net) -> str:
     owed_by_all = sum(debt.claim for debt in net.debts)
     return line("banks", len(net.banks)) + line("debts", len(net.debts)) + line("owed", owed_by_all) + cash_line(net)
 
 
-def gen_text(net):
+def gen_text(net: Net) -> str:
     paid = least(net)
     equity = sum(estate(net, paid, i) - sum(paid[x] for x in net.rows[i]) for i in range(len(net.banks)))
     defaults = sum(state(net, paid, i) != "sound" for i in range(len(net.banks)))
     return counts_text(net) + line("paid", sum(paid)) + line("defaults", defaults) + line("equity", equity)
 
 
-def check_text(net):
+def check_text(net: Net) -> str:
     return counts_text(net) + "\n" + banks_text(net, any(bank.outside for bank in net.banks)) + "\n" + debts_text(net)
 
 
-def journal_text(net, raises, rounds):
+def journal_text(net: Net, raises: Raises, rounds: Optional[int]) -> str:
     text = line("stamp", "debtor", "creditor", "class", "to")
     for stamp, x, to in raises:
         text += line(stamp, *debt_fields(net, net.debts[x]), to)

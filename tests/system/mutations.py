@@ -24,6 +24,9 @@ import zipfile
 
 ROOT = pathlib.Path(__file__).resolve().parents[2]
 sys.path.insert(0, str(ROOT / "python/src"))
+sys.path.append(str(ROOT / "tests"))
+from odd_names import ODD_FIELDS  # noqa: E402
+
 from clearing_client import Network, errors, request, texts  # noqa: E402
 from clearing_client.results import Stress  # noqa: E402
 from clearing_tools import runner, texts as tool_texts  # noqa: E402
@@ -32,55 +35,12 @@ from clearing_tools.evidence import audit, checking, layout, making, plain_files
 TWELVE, HUB = ROOT / "examples/twelve-banks", ROOT / "examples/hub"
 REFUSALS = (errors.ClearingError, runner.ToolError, audit.RefusedError, shock.ScenarioError, plain_files.NoRoomError)
 
-# What is put in the place of a field, or into a text.
+# What is put in the place of a field, or into a text: odd ones, and more that texts of the packages may mistake.
 FIELDS = [
-    b"",
-    b" ",
-    b"0",
-    b"00",
-    b"7",
-    b" 7\t",
-    b"1,000",
-    b"1.000",
-    b"7.5",
-    b"-7",
-    b"+7",
-    b"1e3",
-    "٣".encode(),
-    b"9" * 20,
-    b"0" * 30,
-    b"9" * 5000,
-    b"1000001",
-    b"order",
-    b"Order",
-    b"x" * 65,
-    b'"',
-    b'""',
-    b'"a\nb"',
-    b"a\rb",
-    b"\x7f",
-    b"\x1f",
-    b"\xff\xfe",
-    b"\0",
-    "\u202eA".encode(),
-    "\u2028".encode(),
-    b"A",
-    b"Hub",
-    b"=1+1",
-    b"'",
-    b"[",
-    b"]",
-    b"{}",
-    b"\\x41",
-    b"\\u0041",
-    b"#",
-    b"..",
-    b"/etc/passwd",
-    b"\xef\xbb\xbf",
-    b"true",
-    b"nan",
-    b"total",
-    b"rounds",
+    *(field.encode() for field in ODD_FIELDS),
+    *[b"7.5", b"0" * 30, b"9" * 5000, b'""', b'"a\nb"', b"\x7f", b"\x1f", b"\xff\xfe", "\u202eA".encode()],
+    *["\u2028".encode(), b"Hub", b"=1+1", b"'", b"[", b"]", b"{}", b"\\x41", b"\\u0041", b"..", b"/etc/passwd"],
+    *[b"\xef\xbb\xbf", b"true", b"nan", b"total", b"rounds"],
 ]
 
 

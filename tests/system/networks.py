@@ -2,6 +2,8 @@
 tests/system/model.py."""
 import collections
 import itertools
+import random
+from typing import Any, Dict, Iterator, List, Optional, Set, Tuple
 
 from model import (
     LIMITS,
@@ -9,6 +11,7 @@ from model import (
     Bank,
     Debt,
     Net,
+    Raises,
     Scenario,
     banks_text,
     bounds_text,
@@ -64,12 +67,14 @@ NAMES = [
     "b" * 63,
 ]
 MOST_CLAIMED = 1_000_000  # of one debt
+Case = Tuple[List[str], str, int]
+"""The words of a run, its text and its status."""
 
 
 # Random networks, and files that say the same in another dress.
 
 
-def random_net(rng, size):
+def random_net(rng: random.Random, size: int) -> Net:
     odd = [name for name in NAMES if name == name.strip(" ")]
     names = rng.sample(odd + [f"N{i}" for i in range(size - 8)], size)
     most = rng.choice([1, 3, 8, 25])
@@ -94,7 +99,7 @@ def random_net(rng, size):
     return Net(banks, debts)
 
 
-def ring_net(rng, size):
+def ring_net(rng: random.Random, size: int) -> Net:
     """Few units that go round one or two rings, with a chord here and there."""
     claim = rng.choice([1, 2, 5])
     order = rng.choice([list(range(size)), list(range(size))[::-1], rng.sample(range(size), size)])
@@ -113,7 +118,7 @@ def ring_net(rng, size):
     )
 
 
-def wide_net(rng):
+def wide_net(rng: random.Random) -> Net:
     """One bank with many debts of up to some hundred units, so that its rule has much to round."""
     count = rng.randint(4, 8)
     most = rng.choice([30, 100, 400])
@@ -138,7 +143,7 @@ def wide_net(rng):
 # is short.
 
 
-def net_of_many_banks(rng):
+def net_of_many_banks(rng: random.Random) -> Net:
     """1,000 to 1,200 banks, each of which owes some that follow."""
     size = rng.choice([1_000, 1_001, rng.randint(1_001, 1_200)])
     debtors = [i for i in range(size) for _ in range(rng.randint(0, 3))]
@@ -147,13 +152,13 @@ def net_of_many_banks(rng):
     return Net(banks, [Debt(*key, rng.randint(0, 4)) for key in rng.sample(sorted(keys), len(keys))])
 
 
-def net_of_many_debts(rng):
+def net_of_many_debts(rng: random.Random) -> Net:
     """20,000 debts or some more, of 150 to 200 banks in all classes."""
     size, count = rng.randint(150, 200), rng.choice([20_000, 20_001, rng.randint(20_001, 20_100)])
     return spread_net(rng, size, count, rng.choice([2, 10, 60]))
 
 
-def net_of_much_owed(rng, total=None):
+def net_of_much_owed(rng: random.Random, total: Optional[int] = None) -> Net:
     """Two banks owe 10,000,000 units to 25,000,000 together in claims of up to a million, and have a part of that. The
     others owe little."""
     others = random_net(rng, 8)
@@ -174,7 +179,7 @@ def net_of_much_owed(rng, total=None):
     return Net([*others.banks, *more], debts)
 
 
-def spread_net(rng, size, count, most):
+def spread_net(rng: random.Random, size: int, count: int, most: int) -> Net:
     """So many banks and debts of up to so many units, where banks have some part of what they owe in cash."""
     keys, last, near = {}, rng.choice([3, 9]), rng.random()
     while len(keys) < count:
@@ -191,12 +196,12 @@ def spread_net(rng, size, count, most):
     return Net(banks, [Debt(*key, claim) for key, claim in keys.items()])
 
 
-def larger_net(rng):
+def larger_net(rng: random.Random) -> Net:
     """Some thousand banks and some ten thousand debts."""
     return spread_net(rng, rng.randint(1_201, 4_000), rng.randint(5_000, 80_000), rng.choice([3, 40, 300]))
 
 
-def net_at_the_wide_limits(rng):
+def net_at_the_wide_limits(rng: random.Random) -> Tuple[Net, Optional[List[Optional[int]]]]:
     """As many banks, debts or units as the wide limits allow, or one more; and files as long as they may be by either
     limits, or longer by a byte. Tells the bytes of both files too, or that they are as they are printed."""
     kind, more, limits = rng.choice(["banks", "debts", "owed", "size"]), rng.choice([0, 0, 1]), LIMITS["wide"]
@@ -213,7 +218,7 @@ def net_at_the_wide_limits(rng):
 EDGES = [net_of_many_banks, net_of_many_debts, net_of_much_owed]
 
 
-def beyond_net(rng):
+def beyond_net(rng: random.Random) -> Tuple[Net, Optional[List[Optional[int]]]]:
     """A network at the edge of the standard limits or beyond, and the bytes of its files where these are told. One in
     ten is larger, and one in twenty is at the edge of the wide limits."""
     drawn = rng.random()
@@ -222,7 +227,7 @@ def beyond_net(rng):
     return larger_net(rng) if drawn < 0.15 else rng.choice(EDGES)(rng), None
 
 
-def generated_words(seed):
+def generated_words(seed: int) -> Iterator[int]:
     """The successive words of PCG32 on the stream 0 (O'Neill 2014)."""
     mask, state = 2**64 - 1, 0
     step = lambda state: (state * 6364136223846793005 + 1) & mask
@@ -233,7 +238,7 @@ def generated_words(seed):
         state = step(state)
 
 
-def generated(seed, size, tries):
+def generated(seed: int, size: int, tries: int) -> Net:
     words = generated_words(seed)
     banks = [Bank(f"N{i}", next(words) % 2000, RULES[next(words) % 6], 0) for i in range(size)]
     debts, seen = [], set()
@@ -246,7 +251,7 @@ def generated(seed, size, tries):
     return Net(banks, debts)
 
 
-def dressed(rng, text, numbers):
+def dressed(rng: random.Random, text: str, numbers: Set[int]) -> bytes:
     """A file of records as it is printed, or with other line ends, quotes, blanks, zeros and blank records."""
     lines = text.splitlines()
     if rng.random() < 0.5:
@@ -267,7 +272,7 @@ def dressed(rng, text, numbers):
     return (mark + end.join(out) + (end if rng.random() < 0.5 else "")).encode()
 
 
-def random_scenarios(rng, net):
+def random_scenarios(rng: random.Random, net: Net) -> List[Scenario]:
     scenarios = []
     for _ in range(rng.randint(0, 4)):
         hit = rng.sample(range(len(net.banks)), rng.randint(0, min(3, len(net.banks))))
@@ -281,11 +286,11 @@ def random_scenarios(rng, net):
     return scenarios
 
 
-def toml_string(text):
+def toml_string(text: str) -> str:
     return '"' + text.replace("\\", "\\\\").replace('"', '\\"') + '"'
 
 
-def scenarios_toml(net, scenarios):
+def scenarios_toml(net: Net, scenarios: List[Scenario]) -> str:
     text = ""
     for scenario in scenarios:
         text += f"[[scenario]]\nname = {toml_string(scenario.name)}\n"
@@ -296,7 +301,7 @@ def scenarios_toml(net, scenarios):
     return text
 
 
-def random_journal(rng, net):
+def random_journal(rng: random.Random, net: Net) -> Raises:
     """A lawful history that ends at the least payments, made by raises in some order."""
     paid, raises, stamp = [0] * len(net.debts), [], rng.choice([0, 0, 5])
     may = pay(net, paid)
@@ -308,7 +313,7 @@ def random_journal(rng, net):
     return raises
 
 
-def changed_journal(rng, net, raises):
+def changed_journal(rng: random.Random, net: Net, raises: Raises) -> Raises:
     raises = list(raises)
     for _ in range(rng.randint(1, 2)):
         if not raises:
@@ -335,7 +340,7 @@ def changed_journal(rng, net, raises):
 # What is tried of a network.
 
 
-def drawn_net(rng):
+def drawn_net(rng: random.Random) -> Net:
     """A network of 2 to 8 banks, now and then of 9 to 30, and seldom of 200."""
     drawn = rng.random()
     if drawn < 0.003:
@@ -346,12 +351,14 @@ def drawn_net(rng):
     return wide_net(rng) if drawn < 0.3 else random_net(rng, rng.randint(2, 8))
 
 
-def fallen_of(net, low):
+def fallen_of(net: Net, low: List[int]) -> List[int]:
     """The banks in default."""
     return [i for i in range(len(net.banks)) if state(net, low, i) != "sound"]
 
 
-def further_cases(rng, net, low, files, scenarios):
+def further_cases(
+    rng: random.Random, net: Net, low: List[int], files: List[str], scenarios: List[Scenario]
+) -> List[Case]:
     """Cases that clear a network many times over. Where the model would take long, only some of them."""
     cases = [(["outcomes", *files, "--scenarios", "scenarios.toml"], outcomes_text(net, scenarios), 0)]
     if len(net.banks) <= 30:
@@ -364,51 +371,68 @@ def further_cases(rng, net, low, files, scenarios):
     return cases
 
 
-def limits(rng):
+def limits(rng: random.Random) -> List[str]:
     """The option of limits, or none."""
     return rng.choice([[], [], ["--limits", "standard"], WIDE])
 
 
-def files_and_cases(rng, net):
-    """The files of a network by their names, and its cases: the words of a run, its text, and its status."""
-    second = any(bank.outside for bank in net.banks) or rng.random() < 0.3
-    scenarios = random_scenarios(rng, net)
-    texts = {
-        "banks.csv": dressed(rng, banks_text(net, second), {1, 3}),
-        "debts.csv": dressed(rng, debts_text(net), {3}),
-        "scenarios.toml": scenarios_toml(net, scenarios).encode(),
-    }
-    files = ["--banks", "banks.csv", "--debts", "debts.csv"]
-    workers = lambda: str(rng.choice([rng.randint(1, 9), rng.randint(1, 64)]))
-    how = lambda: rng.choice([[], ["--workers", workers()], ["--sweeps", str(rng.choice([1, 2, 7, 1000]))]])
-    low = least(net)
+FILES = ["--banks", "banks.csv", "--debts", "debts.csv"]
+
+
+def workers(rng: random.Random) -> str:
+    """A number of workers: of some, or of as many as there may be."""
+    return str(rng.choice([rng.randint(1, 9), rng.randint(1, 64)]))
+
+
+def plan(rng: random.Random) -> List[str]:
+    """The option of workers or that of sweeps, or none."""
+    return rng.choice([[], ["--workers", workers(rng)], ["--sweeps", str(rng.choice([1, 2, 7, 1000]))]])
+
+
+def cases_of_one_answer(rng: random.Random, net: Net, low: List[int], scenarios: List[Scenario]) -> List[Case]:
+    """Cases that clear a network a few times at most."""
     cases = [
-        (["clear", *files, *how()], payments_text(net, low), 0),
-        (["central", *files], payments_text(net, low), 0),
-        (["defaults", *files, *how()], defaults_text(net, low), 0),
-        (["bounds", *files, *how()], bounds_text(net), 0),
-        (["stress", *files, "--scenarios", "scenarios.toml", *how()], stress_text(net, scenarios), 0),
-        (["check", *files], check_text(net), 0),
-        (["convert", *files], banks_text(net, True), 0),
+        (["clear", *FILES, *plan(rng)], payments_text(net, low), 0),
+        (["central", *FILES], payments_text(net, low), 0),
+        (["defaults", *FILES, *plan(rng)], defaults_text(net, low), 0),
+        (["bounds", *FILES, *plan(rng)], bounds_text(net), 0),
+        (["stress", *FILES, "--scenarios", "scenarios.toml", *plan(rng)], stress_text(net, scenarios), 0),
+        (["check", *FILES], check_text(net), 0),
+        (["convert", *FILES], banks_text(net, True), 0),
     ]
     for keep in [1000, rng.choice([0, 1, 999]), rng.randint(0, 1000)]:
-        cases.append((["costs", *files, "--keep", str(keep)], costs_text(net, keep), 0))
-        cases.append((["cost-bounds", *files, "--keep", str(keep)], cost_bounds_text(net, keep), 0))
-    cases += further_cases(rng, net, low, files, scenarios)
+        cases.append((["costs", *FILES, "--keep", str(keep)], costs_text(net, keep), 0))
+        cases.append((["cost-bounds", *FILES, "--keep", str(keep)], cost_bounds_text(net, keep), 0))
+    return cases
+
+
+def rescue_cases(rng: random.Random, net: Net) -> List[Case]:
+    """Rescues of up to three banks, where they do not lack much: the model tries each sum. A name that begins with a
+    dash cannot be said."""
+    cases = []
     for i in rng.sample(range(len(net.banks)), min(3, len(net.banks))):
         name = net.banks[i].name
         if due(net, i) - net.banks[i].cash > 100:
             continue
-        words = ["rescue", *files, "--bank", name, *how()]
+        words = ["rescue", *FILES, "--bank", name, *plan(rng)]
         cases.append((words, "", 2) if name.startswith("-") else (words, rescue_text(net, i), 0))
+    return cases
+
+
+def generated_cases(rng: random.Random) -> List[Case]:
+    """A network that the program makes, and that no limits are said of it."""
     seed, size = rng.choice([rng.randrange(100), rng.randrange(2**64)]), (
         rng.randint(1, 8) if rng.random() < 0.9 else rng.randint(9, 40)
     )
     tries = rng.randint(0, 5 * size)
-    made = ["gen", "--seed", str(seed), "--size", str(size), "--tries", str(tries), *how()]
-    cases.append((made, gen_text(generated(seed, size, tries)), 0))
-    cases.append(([*made, "--limits", rng.choice(["standard", "wide"])], "", 2))
-    raises = random_journal(rng, net)
+    made = ["gen", "--seed", str(seed), "--size", str(size), "--tries", str(tries), *plan(rng)]
+    text = gen_text(generated(seed, size, tries))
+    return [(made, text, 0), ([*made, "--limits", rng.choice(["standard", "wide"])], "", 2)]
+
+
+def journals_and_cases(rng: random.Random, net: Net, low: List[int]) -> Tuple[Dict[str, bytes], List[Case]]:
+    """Four journals by their names, the first of which is lawful and ends at the least payments, and their replays."""
+    texts, cases, raises = {}, [], random_journal(rng, net)
     for n in range(4):
         tried = raises if n == 0 else changed_journal(rng, net, raises)
         text, status, paid = verdict(net, tried)
@@ -416,33 +440,44 @@ def files_and_cases(rng, net):
         rounds = rng.choice([None, 0, 12])
         texts[f"journal{n}.csv"] = dressed(rng, journal_text(net, tried, rounds), {0, 4})
         text += "" if status else "\n" + payments_text(net, paid)
-        cases.append((["replay", *files, "--journal", f"journal{n}.csv"], text, status))
+        cases.append((["replay", *FILES, "--journal", f"journal{n}.csv"], text, status))
+    return texts, cases
+
+
+def files_and_cases(rng: random.Random, net: Net) -> Tuple[Dict[str, bytes], List[Any], List[str], List[str]]:
+    """The files of a network by their names, and its cases: the words of a run, its text, and its status. Then the
+    words of two runs that are judged, since more than one answer is right: of a journal, and of a compression."""
+    second = any(bank.outside for bank in net.banks) or rng.random() < 0.3
+    scenarios = random_scenarios(rng, net)
+    texts = {
+        "banks.csv": dressed(rng, banks_text(net, second), {1, 3}),
+        "debts.csv": dressed(rng, debts_text(net), {3}),
+        "scenarios.toml": scenarios_toml(net, scenarios).encode(),
+    }
+    low = least(net)
+    cases = cases_of_one_answer(rng, net, low, scenarios)
+    cases += further_cases(rng, net, low, FILES, scenarios)
+    cases += rescue_cases(rng, net)
+    cases += generated_cases(rng)
+    journals, replays = journals_and_cases(rng, net, low)
     # Within the standard limits both give the same.
-    cases = [(words + limits(rng) if words[0] != "gen" else words, *told) for words, *told in cases]
-    # What is judged, since more than one answer is right.
-    shown = [
-        "clear",
-        *files,
-        *limits(rng),
-        "--show",
-        "journal",
-        "--workers",
-        workers(),
-        "--sweeps",
-        str(rng.choice([1, 1, 2, 7, 1000])),
-    ]
-    return texts, cases, shown, ["compress", *files]
+    cases = [(words + limits(rng) if words[0] != "gen" else words, *told) for words, *told in cases + replays]
+    shown = ["clear", *FILES, *limits(rng), "--show", "journal", "--workers", workers(rng)]
+    shown += ["--sweeps", str(rng.choice([1, 1, 2, 7, 1000]))]
+    return {**texts, **journals}, cases, shown, ["compress", *FILES]
 
 
 STANDARD, WIDE = ["--limits", "standard"], ["--limits", "wide"]
 
 
-def many_times(net):
+def many_times(net: Net) -> bool:
     """Whether the model tries a network as often as it has banks, cuts or banks in default."""
     return len(net.banks) <= 1_200 and len(net.debts) <= 20_100
 
 
-def files_beyond(rng, net, sizes):
+def files_beyond(
+    rng: random.Random, net: Net, sizes: Optional[List[Optional[int]]]
+) -> Tuple[Dict[str, bytes], List[Scenario]]:
     """The files of a network by their names, of so many bytes where these are told: lines without a byte are no
     records."""
     second = any(bank.outside for bank in net.banks) or rng.random() < 0.3
@@ -458,7 +493,9 @@ def files_beyond(rng, net, sizes):
     return texts, scenarios
 
 
-def files_and_cases_beyond(rng, net, sizes=None):
+def files_and_cases_beyond(
+    rng: random.Random, net: Net, sizes: Optional[List[Optional[int]]] = None
+) -> Tuple[Dict[str, bytes], List[Any], Optional[List[str]], List[str]]:
     """The same of a network at the edge of the standard limits or beyond. Each task is refused, or answers, as the
     limits are that it reads by. `shown` is None where the wide limits refuse the network."""
     texts, scenarios = files_beyond(rng, net, sizes)
@@ -507,7 +544,7 @@ def files_and_cases_beyond(rng, net, sizes=None):
 # Answers of which more than one is right.
 
 
-def balances(net):
+def balances(net: Net) -> Any:
     """What each bank is owed in each class, less what it owes."""
     sums = collections.Counter()
     for debt in net.debts:
@@ -516,7 +553,7 @@ def balances(net):
     return sums
 
 
-def judge_compression(net, text):
+def judge_compression(net: Net, text: str) -> Optional[str]:
     """What is wrong with a compression, as it is printed; None where it is right."""
     parts = text.split("\n\n")
     if len(parts) != 2:
@@ -549,7 +586,7 @@ def judge_compression(net, text):
     return None
 
 
-def raises_of(net, lines):
+def raises_of(net: Net, lines: List[str]) -> Raises:
     """The raises of a journal, as it is printed."""
     places = {debt_fields(net, debt): x for x, debt in enumerate(net.debts)}
     raises = []
@@ -559,7 +596,7 @@ def raises_of(net, lines):
     return raises
 
 
-def replay_of(net, raises):
+def replay_of(net: Net, raises: Raises) -> Tuple[Any, ...]:
     """What a replay of raises prints, and its status, with the message where they are refused."""
     for row, (_, _, to) in enumerate(raises, 1):
         if to > MOST_CLAIMED:
@@ -568,13 +605,13 @@ def replay_of(net, raises):
     return told + ("" if status else "\n" + payments_text(net, paid)), status
 
 
-def changed_replay(rng, net, text):
+def changed_replay(rng: random.Random, net: Net, text: str) -> Tuple[Any, ...]:
     """A journal that is changed from one as it is printed, and what replay_of() says of it."""
     changed = changed_journal(rng, net, raises_of(net, text.splitlines()))
     return journal_text(net, changed, None), *replay_of(net, changed)
 
 
-def judge_journal(net, low, text):
+def judge_journal(net: Net, low: List[int], text: str) -> Optional[str]:
     """What is wrong with a journal of a run, as it is printed, where these are the least payments; None where it is
     right."""
     lines = text.splitlines()
