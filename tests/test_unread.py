@@ -2,9 +2,11 @@
 makes, each parameter is looked at, and each key of the desk's answers is one that the scripts of its page read."""
 import ast
 import collections
+import pathlib
 import re
 import subprocess
 import unittest
+from typing import Dict, Iterable, Iterator, List, Set
 
 from common import ROOT, Case, needs_modules, python_with
 from test_client_types import SCRIPTS, SOURCES
@@ -91,7 +93,7 @@ work([Pair(1, 2, 3, 4)], Other(), {"read": 1, "idle": 2}, least=1)
 """
 
 
-def unread_in(root):
+def unread_in(root: pathlib.Path) -> List[str]:
     """What is of no use in the packages of a checkout."""
     line = [python_with("mypy"), ROOT / "tests/unread.py", root]
     done = subprocess.run(line, capture_output=True, encoding="utf-8")
@@ -100,7 +102,7 @@ def unread_in(root):
     return done.stdout.splitlines()
 
 
-def is_documented(line):
+def is_documented(line: str) -> bool:
     """Whether it is for those who use the package clearing_client. A record is a line of a text of the program, whole;
     of all else the guide names the class or the function, and the field or the parameter."""
     module, *names = line.removeprefix("clearing_client.").replace("(", ".").rstrip(")").split(".")
@@ -125,7 +127,7 @@ class Packages(Case):
         self.assertEqual(unread_in(self.folder), [f"clearing_tools.planted.{name}" for name in [*idle, *fixed]])
 
 
-def unused_in(texts):
+def unused_in(texts: Dict[str, str]) -> Iterator[str]:
     """The parameters that the bodies of functions do not name, of modules by their names. A function that is passed on,
     or has the name of another, has the parameters that all such functions have; one that only says what it is for is
     there to be overridden."""
@@ -155,7 +157,7 @@ class Parameters(unittest.TestCase):
         self.assertEqual(list(unused_in({"planted.py": planted})), ["planted.py: work(idle)"])
 
 
-def keys_made(places):
+def keys_made(places: Iterable[str]) -> Set[str]:
     """The keys of what some functions give and some records are, each told as MODULE.NAME, of the desk where no other
     folder is told."""
     keys = set()
@@ -172,7 +174,7 @@ def keys_made(places):
     return keys
 
 
-def keys_described(text):
+def keys_described(text: str) -> Dict[str, Set[str]]:
     """The keys of each object that a module describes."""
     return {
         found["name"]: set(
@@ -184,9 +186,9 @@ def keys_described(text):
     }
 
 
-def is_read(key, code):
+def is_read(key: str, code: str) -> bool:
     """Whether scripts read a key: behind a point, or as one of the names that an object is taken apart into."""
-    return re.search(rf"\.{key}\b|[{{,]\s*{key}\s*(?=[,}}:=])", code)
+    return bool(re.search(rf"\.{key}\b|[{{,]\s*{key}\s*(?=[,}}:=])", code))
 
 
 class Answers(unittest.TestCase):
