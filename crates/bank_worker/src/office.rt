@@ -165,7 +165,8 @@ impl Office {
         let space = &mut *self.workspace;
         space.count_visit();
         prove!(seat.clock() <= MAX_OWED);
-        let received = look_at_all(board, seat, desk.debts_in());
+        let first = board.first(desk.bank());
+        let received = look_at_all(board, seat, desk.debts_in(), first);
         prove!(seat.clock() <= MAX_OWED);
         lay_out(desk, received, &mut space.targets);
         let debts = desk.debts_out();

@@ -40,6 +40,7 @@ mod opening;
 mod origin;
 mod paid;
 mod payment;
+mod positions;
 mod record;
 mod rule;
 mod seat;
