@@ -39,7 +39,8 @@ look_at_all-received-requires-clause-debts c =
 
 pub first-first-requires : goal.first-first-requires
 first-first-requires c =
-    let d = there (goal.at.first-first-requires c).After-debts_in in
+    let d : IsDeskOf c.args.seat.now.shows c.at-desk.result.now = rw (c.at-desk.ensures ∙ ap (λ (o : OfficeView). desk_at o.desks c.args.place) c.self.view_is)
+    (desk_is c.args.seat.now.shows c.args.self.now.desks c.args.place c.requires.staffed.office.desks c.requires.place) in
     omega (arith, held_in_range c.args.seat.now.shows c.at-desk.result.now.bank c.clock.ensures.over d.held, c.bank.ensures.bank, ap (λ (n : Net). length n.banks) c.requires.seat.1)
 
 pub look_at_all-received-requires-clause-positions : goal.look_at_all-received-requires-clause-positions
