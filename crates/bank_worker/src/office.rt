@@ -1,3 +1,4 @@
+//! The office of a worker: what it keeps from seat to seat, and a visit to one of its banks.
 ghost use Rattle.bank_desk.specs.Desks.{with_cash_in};
 ghost use Rattle.bank_worker.specs.Offices.{IsOfficeFor, banks_of_worker};
 ghost use Rattle.bank_worker.specs.Staff.{IsStaffed};

@@ -63,8 +63,8 @@ impl Model for Board {
 impl Board {
     /// A board on which the payments of a past stand, and its master, which holds all banks.
     ///
-    /// `start` is over all debts, in file order. Costs walks over all banks and debts, a list of
-    /// their positions, and for each worker one of their values, four bytes each.
+    /// `start` is over all debts, in file order. Costs walks over all banks and debts, and beside the
+    /// words eight bytes for each debt, and four for each debt and worker.
     pub fn make(
         alloc: Global,
         net: &Network,

@@ -1,5 +1,4 @@
 //! Where the words of debts stand on a board.
-ghost use Rattle.clr_net.specs.Net.{debtor_of};
 ghost use Rattle.pay_words.specs.Positions.{ArePositions, first_position, position_of};
 ghost use Rattle.pay_words.specs.Tables.{tabled};
 ghost use Rattle.std.specs.Prelude.{◌≡◌, ◌<◌, IfOk, length, slice_index};
