@@ -1,7 +1,8 @@
 -- What looks at some debts change of what a seat shows.
 use Rattle.std.specs.Prelude.{◌≡◌, ◌≢◌, ℕ, ◌+◌, ◌<◌, ◌≤◌, ◌++◌, true, false, List, length, map}
 use Rattle.std.specs.Prelude.{slice_index, sum_by, take}
-use Rattle.clr_net.specs.Net.{creditor_of}
+use Rattle.clr_net.specs.Net.{Net, creditor_of}
+use Rattle.pay_words.specs.Positions.{position_of}
 use Rattle.pay_words.specs.declared.payment.Payment.{Payment}
 use Rattle.pay_words.specs.declared.view.Act.{Act}
 use Rattle.pay_words.specs.declared.view.Act.TheVariants as act
@@ -14,6 +15,11 @@ pub record AreOwedTo (s : Shown) (xs : List ℕ) : Type 0 where
   pub known : (k : ℕ) → k < length xs → slice_index xs k < length s.net.debts
   pub held : (k : ℕ) → k < length xs → holds s (creditor_of s.net (slice_index xs k)) ≡ true
   pub rise : Rises xs
+
+-- the words of the debts xs stand side by side on a board of the network, from a position on
+abbrev pub StandFrom : Net → ℕ → List ℕ → Type 0
+StandFrom net first xs = (k : ℕ) → k < length xs
+    → position_of net (slice_index xs k) ≡ first + k
 
 -- the debt x was looked at once: it is seen at no less than the floor, and calls for a look no more
 pub record IsSeenAt (s t : Shown) (x : ℕ) : Type 0 where

@@ -13,10 +13,11 @@
 //! bank is *called* while it is on the worklist of a round, the set of banks whose bells may be up.
 //!
 //! `worker.rt` has the worker and its visit, and `rounds.rt` its rounds, over worklists of
-//! `bank_set.rt`. A visit is done by `office.rt`, which keeps desks and workspace, in three parts:
-//! `looks.rt`, `raises.rt` and `rings.rt`, which have the definitions of the same names in `specs/`.
-//! What they come to in a visit is in `specs/OneVisit.antt`, and what visits come to in a round in
-//! `specs/Grows.antt`. What the acts of a seat tell of the visits of its worker is in [`laws`].
+//! `bank_set.rt`. A visit is done by `office.rt`, which keeps desks (`desks.rt`) and the workspace
+//! (`workspace.rt`), in three parts: `looks.rt`, `raises.rt` and `rings.rt`, which have the
+//! definitions of the same names in `specs/`. What they come to in a visit is in
+//! `specs/OneVisit.antt`, and what visits come to in a round in `specs/Grows.antt`. What the acts of
+//! a seat tell of the visits of its worker is in [`laws`]. The program calls nothing of `plain.rt`.
 #![tactic(auto)]
 
 mod bank_set;

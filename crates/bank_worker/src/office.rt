@@ -1,3 +1,4 @@
+//! The office of a worker: what it keeps from seat to seat, and a visit to one of its banks.
 ghost use Rattle.bank_desk.specs.Desks.{with_cash_in};
 ghost use Rattle.bank_worker.specs.Offices.{IsOfficeFor, banks_of_worker};
 ghost use Rattle.bank_worker.specs.Staff.{IsStaffed};
@@ -165,7 +166,8 @@ impl Office {
         let space = &mut *self.workspace;
         space.count_visit();
         prove!(seat.clock() <= MAX_OWED);
-        let received = look_at_all(board, seat, desk.debts_in());
+        let first = board.first(desk.bank());
+        let received = look_at_all(board, seat, desk.debts_in(), first);
         prove!(seat.clock() <= MAX_OWED);
         lay_out(desk, received, &mut space.targets);
         let debts = desk.debts_out();

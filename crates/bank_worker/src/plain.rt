@@ -1,8 +1,7 @@
 //! What the program does not call, for whoever calls the crate: a worker that is made with an
-//! office of its own, one that leaves no office behind, and its rounds over all its banks or over
-//! those that are called. The program keeps the office, which it makes once, and says which banks
-//! are called anew; it calls [`Worker::with`], [`Worker::round_over`] and [`Worker::leave`].
-ghost use Rattle.bank_worker.specs.Called.{AreCalledOrAtRest, CallsOthers, KeepsOthers};
+//! office of its own, one that leaves no office behind, and its rounds over all its banks. The
+//! program keeps the office, which it makes once, and says which banks are called anew; it calls
+//! [`Worker::with`], [`Worker::round_over`] and [`Worker::leave`].
 ghost use Rattle.bank_worker.specs.Grows.{MakesRound};
 ghost use Rattle.bank_worker.specs.Ready.{IsReadyWorker};
 ghost use Rattle.bank_worker.specs.Views.{desks_held};
@@ -89,25 +88,6 @@ impl Worker {
             &mut BankSet::all(),
             Some(&BankSet::all()),
         )
-    }
-
-    /// Makes a round as [`round`](Worker::round) does, and looks at the bells of those banks alone
-    /// that are called, as [`round_over`](Worker::round_over) does with no bank called anew.
-    pub fn round_called<G: Gate>(
-        &mut self,
-        board: &Board,
-        sweeps: u32,
-        gate: &G,
-        called: &mut BankSet,
-    ) -> Visit
-        requires ready { IsReadyWorker board.now self.old }
-        requires sweeps { (1 ≤ sweeps) × (sweeps ≤ 1000) }
-        requires called { AreCalledOrAtRest called.old self.old.seat.shows self.old.desks }
-        ensures round { MakesRound sweeps result self.old self.new }
-        ensures keeps_others { KeepsOthers self.old.seat.shows called.old called.new }
-        ensures rung { CallsOthers self.old self.new called.new }
-    {
-        self.round_over(board, sweeps, gate, called, None)
     }
 
     /// The seat, and the journal of its raises. Takes no memory.

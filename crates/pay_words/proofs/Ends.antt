@@ -16,6 +16,7 @@ use Rattle.pay_words.specs.declared.view.Shown.{Shown}
 use Rattle.pay_words.specs.declared.view.View.{View}
 use Rattle.pay_words.specs.Belongs.{Belongs}
 use Rattle.pay_words.specs.Ends.{payments_of, values, Ends}
+use Rattle.pay_words.specs.Positions.{position_of}
 use Rattle.pay_words.specs.Words.{unpaid, payment_of}
 use Rattle.pay_words.specs.Traces.{Traces, AreLawfulTraces, ending, raises_of, last_payment, start_of, paid_in}
 use Rattle.pay_words.specs.Tables.{tabled}
@@ -105,7 +106,7 @@ made_none d k roll count id j v u f chief all apart fits = cond_both u.live (len
 -- what the last state says, of the words
 pub record Closed (d : Origin) (s : Shown) (words : List ℕ) : Type 0 where
   pub size : length words ≡ 1 + length d.net.debts + length d.net.banks
-  pub payments : (x : ℕ) → x < length d.net.debts → payment_of (slice_index words (x + 1)) ≡ record { value = slice_index s.paid x; stamp = slice_index s.paid_stamps x }
+  pub payments : (x : ℕ) → x < length d.net.debts → payment_of (slice_index words (position_of d.net x + 1)) ≡ record { value = slice_index s.paid x; stamp = slice_index s.paid_stamps x }
   pub ends : Ends d.net d.past s (payments_of s)
 
 -- the words of a board whose master holds all banks are what the board closes with
@@ -132,7 +133,7 @@ closes d id v ws xs on chief all final =
     (λ x lt. f.pays x lt (mine x lt) ∙ ap ending (sym (same x lt)))) in
     record {
       size = ap length (sym final.2) ∙ h.size;
-      payments = λ x lt. ap (λ (l : List ℕ). payment_of (slice_index l (x + 1))) (sym final.2)
+      payments = λ x lt. ap (λ (l : List ℕ). payment_of (slice_index l (position_of net x + 1))) (sym final.2)
           ∙ stands d s.words s.views h x lt ∙ sym (f.pays x lt (mine x lt));
       ends = subst (Ends net d.past v.shown) (sym shown) (record {
         payments_are = sym shown;
@@ -153,7 +154,7 @@ closes d id v ws xs on chief all final =
 
 -- the payments in the list that the words are copied to
 pub copied : (d : Origin) (s : Shown) (words : List ℕ) (into : List Payment) → s.net ≡ d.net → Closed d s words → length into ≡ length d.net.debts
-    → ((k : ℕ) → k < length into → get_or into k unpaid ≡ payment_of (slice_index words (k + 1))) → Ends d.net d.past s into
+    → ((k : ℕ) → k < length into → get_or into k unpaid ≡ payment_of (slice_index words (position_of d.net k + 1))) → Ends d.net d.past s into
 copied d s words into e h size each =
     let over : length s.net.debts ≡ length d.net.debts = ap (λ (n : Net). length n.debts) e in
     let pay : ℕ → Payment = λ x. record { value = slice_index s.paid x; stamp = slice_index s.paid_stamps x } in

@@ -1,4 +1,5 @@
 pub mod Tables
+pub mod SideBySide
 pub mod Traces
 pub mod Lengths
 pub mod Lawful

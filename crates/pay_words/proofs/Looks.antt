@@ -5,7 +5,7 @@ use Rattle.clr_net.specs.Net.{units_owed}
 use Rattle.clear_core.specs.declared.event.Raise.{Raise}
 use Rattle.pay_words.proofs.Tables.{set_both}
 use Rattle.pay_words.proofs.Views.{allowed}
-use Rattle.std.proofs.Common.{◌≡◌, ℕ, ◌+◌, ◌<◌, ◌≤◌, max, List, length, set, true, refl, sym, subst, arith, le_trans, All}
+use Rattle.std.proofs.Common.{◌≡◌, ℕ, ◌+◌, ◌<◌, ◌≤◌, max, List, length, set, true, refl, sym, ap, ◌∙◌, subst, arith, le_trans, All}
 use Rattle.std.proofs.lemmas.List.{set-get_or}
 use Rattle.std.specs.Prelude.{slice_index}
 use mathlib.Core.Option.{none}
@@ -23,7 +23,9 @@ use Rattle.pay_words.specs.Sound.{IsSound}
 use Rattle.pay_words.specs.Paying.{looked}
 use Rattle.pay_words.specs.Traces.{Stood, ending, total}
 use Rattle.pay_words.specs.BoardRule.{BoardHistory, Suits, MeetsRule}
+use Rattle.pay_words.specs.Positions.{position_of}
 use Rattle.pay_words.specs.Steps.{LookTells, Looks, showing}
+use Rattle.pay_words.proofs.SideBySide.{one_place}
 use Rattle.pay_words.proofs.Tables.{after_set, set_above, set_below}
 use Rattle.pay_words.proofs.Traces.{ending_stood, stood_under}
 use Rattle.pay_words.proofs.Lawful.{total_le}
@@ -62,18 +64,20 @@ module _ (past : List Raise) (k : BoardHistory) (roll count id : ℕ) (v : View)
       assumption (stood, seen, stamps, past, most, f)
 
 -- a look keeps the rule, and finds what its clauses say
-pub looks : (d : Origin) (slots id : ℕ) (me : Me (Unit {0}) View) (x : ℕ) → me.0.shown.net ≡ d.net → me.0.live ≡ true
+pub looks : (d : Origin) (slots id : ℕ) (me : Me (Unit {0}) View) (i x : ℕ) → me.0.shown.net ≡ d.net
+    → i ≡ position_of me.0.shown.net x + 1 → me.0.live ≡ true
     → x < length me.0.shown.net.debts → holds me.0.shown (creditor_of me.0.shown.net x) ≡ true
-    → Allows (rule d) slots id me (x + 1) (λ n. n) (Looks (step slots (x + 1) 0 0 none) me)
-looks d slots id me x over on lt to_me = allowed d slots id me (x + 1) (λ n. n)
-    (Looks (step slots (x + 1) 0 0 none) me) (λ n. showing me.0 (looked me.0.shown x (payment_of n))) over (λ s h at.
+    → Allows (rule d) slots id me i (λ n. n)
+    (Looks (step slots i 0 0 none) me)
+looks d slots id me i x over place on lt to_me = allowed d slots id me i (λ n. n)
+    (Looks (step slots i 0 0 none) me) (λ n. showing me.0 (looked me.0.shown x (payment_of n))) over (λ s h at.
     let k = h.history in
     let v = me.0 in
     let net = v.shown.net in
-    let n : ℕ = slice_index s.words (x + 1) in
+    let n : ℕ = slice_index s.words i in
     let f = h.fits id v at on in
     let p : Payment = ending (k.trace x) in
-    let is : payment_of n ≡ p = stands (its d.past v) s.words s.views h x lt in
+    let is : payment_of n ≡ p = ap (λ j. payment_of (slice_index s.words j)) place ∙ stands (its d.past v) s.words s.views h x lt in
     let seen : slice_index v.shown.sights x ≤ p.value = stood_under (k.trace x) (h.lawful.rise x lt) _ _ (f.stood x lt) in
     let low = h.lawful.low x lt in
     let sound = sound_look v.shown x p f.sound seen (h.lawful.most x lt) (omega (arith, f.clock_low, low, total_le net k.trace h.lawful)) in
@@ -93,8 +97,8 @@ looks d slots id me x over on lt to_me = allowed d slots id me (x + 1) (λ n. n)
           (λ j u ne e t. not_both (its d.past v) k _ _ id j u v (creditor_of net x) ne f to_me (h.fits j u e t))),
       told,
     ) in (
-      rw (set-get_or s.words (x + 1) 0) after.0,
-      λ y e. let same : x ≡ y = omega arith in
+      rw (set-get_or s.words i 0) after.0,
+      λ y l e. let same : x ≡ y = one_place net x y lt l (omega (arith, e, place)) in
           subst (λ (z : ℕ). (◌≡◌ {A = Me (Unit {0}) View} (showing v (looked v.shown x (payment_of n)), me.1)
           (showing v (looked v.shown z (payment_of n)), me.1)) × LookTells v.shown z (payment_of n)) same (refl, after.1),
     ))

@@ -2,10 +2,10 @@
 use Rattle.pay_words.proofs.Pasts.{values_paid, at_first, over_first}
 use Rattle.pay_words.proofs.Views.{each_longer}
 use Rattle.pay_words.proofs.Seats.{at_master}
-use Rattle.std.proofs.Common.{◌≡◌, ℕ, zero, suc, ◌+◌, ◌<◌, ◌≤◌, max, List, [], ◌∷◌, ◌++◌, length, map, get_or, true, false, refl, sym, ap, ◌∙◌, subst, arith, le_refl, le_trans, le_of_eq, zero-le, replicate}
+use Rattle.std.proofs.Common.{◌≡◌, ℕ, zero, suc, ◌<◌, ◌≤◌, max, List, [], ◌∷◌, ◌++◌, length, map, get_or, true, false, refl, sym, ap, ◌∙◌, subst, arith, le_refl, le_trans, le_of_eq, zero-le, replicate}
 use Rattle.std.specs.Prelude.{◌%◌, slice_index}
 use Rattle.std.proofs.Math.Nat.{mod-lt}
-use Rattle.std.proofs.lemmas.List.{get_or-replicate, length-replicate, append-nil, get_or_append_left, length-append}
+use Rattle.std.proofs.lemmas.List.{get_or-replicate, length-replicate, append-nil}
 use mathlib.Core.Option.{some-ne-none}
 use Rattle.clr_net.specs.Amounts.{IsAtMost}
 use Rattle.clr_net.specs.Limits.{IsNetwork}
@@ -15,7 +15,8 @@ use Rattle.pay_words.specs.declared.payment.TheConstants.{STAMP}
 use Rattle.pay_words.specs.declared.origin.Origin.{Origin}
 use Rattle.pay_words.specs.declared.payment.Payment.{Payment}
 use Rattle.pay_words.specs.declared.view.View.{View}
-use Rattle.pay_words.specs.Words.{word_of}
+use Rattle.pay_words.specs.Making.{AreOpening}
+use Rattle.pay_words.specs.Words.{unpaid, word_of}
 use Rattle.pay_words.specs.Belongs.{Belongs}
 use Rattle.pay_words.specs.Traces.{Traces, AreLawfulTraces, ending, raises_of, total}
 use Rattle.pay_words.specs.Sound.{IsSound}
@@ -28,7 +29,6 @@ use Rattle.pay_words.specs.Memory.{IsInMemory, seat_memory}
 use Rattle.pay_words.proofs.Tables.{tabled_at}
 use Rattle.std.proofs.Common.{inl}
 use Rattle.std.proofs.lemmas.List.Sums.{sum_by-cons}
-use Rattle.std.proofs.lemmas.List.{get_or-append-add}
 use Rattle.pay_words.proofs.Bells.{sum_low}
 use Rattle.pay_words.proofs.Pasts.{traces, past_known, past_lawful, start_over, start_low, start_within}
 use Rattle.std.proofs.lemmas.List.Elements.{All-nil}
@@ -49,14 +49,6 @@ greatest_above (n ∷ ns) (suc x) = let rest = greatest_above ns x in omega arit
 pub greatest_most : (ns : List ℕ) (k : ℕ) → ((x : ℕ) → x < length ns → slice_index ns x ≤ k) → greatest ns ≤ k
 greatest_most [] k h = zero-le
 greatest_most (n ∷ ns) k h = let rest = greatest_most ns k (λ x lt. h (suc x) (omega (arith, lt))) in let first : n ≤ k = h 0 (omega arith) in omega arith
-
--- behind a first word each word stands one place on
-next_at : (w : ℕ) (ws : List ℕ) (x : ℕ) → slice_index (w ∷ ws) (x + 1) ≡ slice_index ws x
-next_at w ws x = let e : x + 1 ≡ suc x = omega arith in ap (λ (n : ℕ). slice_index (w ∷ ws) n) e
-
--- the words of a new board
-abbrev pub opening_words : Net → List Payment → List ℕ
-opening_words net start = 1 ∷ (map word_of start ++ replicate (length net.banks) 1)
 
 module _ (d : Origin) (start : List Payment) (network : IsNetwork d.net) (h : Belongs d.net start d.past) where
   -- the network
@@ -138,62 +130,52 @@ module _ (d : Origin) (start : List Payment) (network : IsNetwork d.net) (h : Be
     leads = λ _. (refl, sym (append-nil d.past), refl, le_refl 1, le_refl 1);
   }
 
-  -- the rule holds of the words and the one view of a new board
-  pub opens : MeetsRule d (opening_words net start) (first_view ∷ [])
-  opens = record {
-    history = history;
-    network = network;
-    size = omega (arith, length-append (map word_of start) bells, over word_of, length-replicate {A = ℕ} (length net.banks) 1);
-    stands = λ x lt. next_at 1 (map word_of start ++ bells) x
-        ∙ get_or_append_left (map word_of start) bells 0 x (omega (arith, lt, over word_of)) ∙ at_first net start d.past h word_of x lt;
-    lawful = lawful;
-    known = past_known net start d.past h;
-    held = λ b lt. (_, refl, refl, get_or-replicate (length net.banks) b true false lt);
-    led = (_, refl, refl, refl);
-    fits = each_longer (Suits d history 1 1) [] first_view (λ j u e _. absurd (some-ne-none u (sym e))) first;
-    rung = record {
-      ledger = ledger;
-      bells = λ b lt. le_of_eq (bell_up b lt);
-      answered = λ x lt. inl refl;
-      lifted = λ x lt. inl (le_refl _);
-      levels = λ x lt. le_refl _;
-      fresh = λ b lt _. (bell_up b lt, λ x _ _. refl);
-      few =
-          let up = sum_low (length net.banks) 1 (bell net (opening_words net start)) (λ b lt. le_of_eq (bell_up b lt)) in
-          let owed = sum_low n 0 (λ _. 0) (λ _ _. le_refl 0) in
-          omega (arith, up, owed, sum_by-cons taken_of first_view [], sum_by-cons made_of first_view []);
-      has = each_longer (λ _. HasBells d ledger) [] first_view (λ j u e _. absurd (some-ne-none u (sym e))) (record {
-        seen = λ x lt _. value_at x lt;
-        pend = λ x lt _. get_or-replicate n x false false lt;
-        owed = λ x lt _. get_or-replicate n x false false lt;
-        level = λ x lt. le_of_eq (value_at x lt);
-        fresh = λ b lt _. get_or-replicate (length net.banks) b true false lt;
-      });
-    };
-  }
-    where
-      bells : List ℕ
-      bells = replicate (length net.banks) 1
-
-      ledger : BellLedger
-      ledger = record { seen = λ x. (ending (t x)).value; pend = λ _. false; owed = λ _. false; level = λ x. (ending (t x)).value; fresh = λ _. true }
-
-      bell_up : (b : ℕ) → b < length net.banks → bell net (opening_words net start) b ≡ 1
-      bell_up b lt =
-          let e : n + 1 + b ≡ length (map word_of start) + b + 1 = omega (arith, over word_of) in
-          ap (slice_index (opening_words net start)) e
-          ∙ next_at 1 (map word_of start ++ replicate (length net.banks) 1) (length (map word_of start) + b)
-          ∙ get_or-append-add (map word_of start) (replicate (length net.banks) 1) b 0 ∙ get_or-replicate (length net.banks) b 1 0 lt
-
-  -- it does with the payments that the past left
-  pub opens_past : MeetsRule d (opening_words net start) (opening_view d ∷ [])
-  opens_past = subst (λ (ps : List Payment). MeetsRule d (opening_words net start) (record { live = true; rolled = 1; shown = opening net ps } ∷ [])) h.start_is opens
-
   -- each of the payments is that of the debt's last raise, whatever stands past the end
   start_ending : (k : ℕ) (p : Payment) → k < length start → (get_or start k p ≡ ending (t k)) × (k < n)
   start_ending k p lt =
       let l : k < n = omega (arith, lt, start_over net start d.past h) in
       (ap (λ (ps : List Payment). get_or ps k p) h.start_is ∙ tabled_at n (λ y. ending (t y)) k p l, l)
+
+  module _ (words : List ℕ) (opening_words : AreOpening net start words) where
+    -- the rule holds of the words and the one view of a new board
+    opens : MeetsRule d words (first_view ∷ [])
+    opens = record {
+      history = history;
+      network = network;
+      size = opening_words.size;
+      stands = λ x lt. opening_words.paid x lt ∙ ap word_of (start_ending x unpaid (omega (arith, lt, start_over net start d.past h))).0;
+      lawful = lawful;
+      known = past_known net start d.past h;
+      held = λ b lt. (_, refl, refl, get_or-replicate (length net.banks) b true false lt);
+      led = (_, refl, refl, refl);
+      fits = rw opening_words.roll (each_longer (Suits d history 1 1) [] first_view (λ j u e _. absurd (some-ne-none u (sym e))) first);
+      rung = record {
+        ledger = ledger;
+        bells = λ b lt. le_of_eq (opening_words.up b lt);
+        answered = λ x lt. inl refl;
+        lifted = λ x lt. inl (le_refl _);
+        levels = λ x lt. le_refl _;
+        fresh = λ b lt _. (opening_words.up b lt, λ x _ _. refl);
+        few =
+            let up = sum_low (length net.banks) 1 (bell net words) (λ b lt. le_of_eq (opening_words.up b lt)) in
+            let owed = sum_low n 0 (λ _. 0) (λ _ _. le_refl 0) in
+            omega (arith, up, owed, sum_by-cons taken_of first_view [], sum_by-cons made_of first_view []);
+        has = each_longer (λ _. HasBells d ledger) [] first_view (λ j u e _. absurd (some-ne-none u (sym e))) (record {
+          seen = λ x lt _. value_at x lt;
+          pend = λ x lt _. get_or-replicate n x false false lt;
+          owed = λ x lt _. get_or-replicate n x false false lt;
+          level = λ x lt. le_of_eq (value_at x lt);
+          fresh = λ b lt _. get_or-replicate (length net.banks) b true false lt;
+        });
+      };
+    }
+      where
+        ledger : BellLedger
+        ledger = record { seen = λ x. (ending (t x)).value; pend = λ _. false; owed = λ _. false; level = λ x. (ending (t x)).value; fresh = λ _. true }
+
+    -- it does with the payments that the past left
+    pub opens_past : MeetsRule d words (opening_view d ∷ [])
+    opens_past = subst (λ (ps : List Payment). MeetsRule d words (record { live = true; rolled = 1; shown = opening net ps } ∷ [])) h.start_is opens
 
   -- each of the words fits
   pub start_fits : (k : ℕ) (p : Payment) → k < length start → word_of (get_or start k p) < 18446744073709551616

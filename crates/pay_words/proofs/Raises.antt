@@ -26,7 +26,9 @@ use Rattle.pay_words.specs.Sound.{IsSound}
 use Rattle.pay_words.specs.Paying.{MayRaise, raised, a_raise}
 use Rattle.pay_words.specs.Traces.{AreLawfulTraces, ending, raises_of, total}
 use Rattle.pay_words.specs.BoardRule.{BoardHistory, Suits}
+use Rattle.pay_words.specs.Positions.{position_of}
 use Rattle.pay_words.specs.Steps.{Raises, showing}
+use Rattle.pay_words.proofs.SideBySide.{one_place, within}
 use Rattle.pay_words.proofs.Tables.{after_set, set_below, changed_else, changed_each}
 use Rattle.pay_words.proofs.Traces.{pushed, stood_pushed, raises_of-push, raises_of-push_else}
 use Rattle.pay_words.proofs.Lawful.{total_le, ending_here, ending_else, ending_rises, total_rises, lawful_push, seen_before}
@@ -110,16 +112,19 @@ module _ (past : List Raise) (k : BoardHistory) (roll count : ℕ) (v : View) (x
   }
 
 -- the store of a raise that a seat may make, as the rule of the board knows it
-pub raises : (d : Origin) (slots id : ℕ) (me : Me (Unit {0}) View) (x to word : ℕ) → me.0.shown.net ≡ d.net
+pub raises : (d : Origin) (slots id : ℕ) (me : Me (Unit {0}) View) (i x to word : ℕ) → me.0.shown.net ≡ d.net
+    → i ≡ position_of me.0.shown.net x + 1
     → word ≡ (me.0.shown.clock + 1) * STAMP + to → me.0.live ≡ true → to < STAMP
     → MayRaise me.0.shown.net me.0.shown x to
-    → Allows (rule d) slots id me (x + 1) (λ _. word) (λ _. Raises (step slots (x + 1) word 0 none) me word)
-raises d slots id me x to word over is on fits may = allowed d slots id me (x + 1) (λ _. word)
-    (λ _. Raises (step slots (x + 1) word 0 none) me word) (λ _. showing me.0 (raised me.0.shown x to)) over (λ s h at.
+    → Allows (rule d) slots id me i (λ _. word)
+    (λ _. Raises (step slots i word 0 none) me word)
+raises d slots id me i x to word over at_i is on fits may = allowed d slots id me i (λ _. word)
+    (λ _. Raises (step slots i word 0 none) me word) (λ _. showing me.0 (raised me.0.shown x to)) over (λ s h at.
     let k = h.history in
     let v = me.0 in
     let net = v.shown.net in
     let lt = may.debt in
+    let low = within net x lt in
     let f = h.fits id v at on in
     let r : Raise = a_raise (v.shown.clock + 1) x to in
     let value : to ≡ (payment_of word).value = omega (arith, is, fits) in
@@ -134,20 +139,21 @@ raises d slots id me x to word over is on fits may = allowed d slots id me (x + 
     (omega (arith, f.clock_low, total_rises net k.trace h.lawful x lt r refl paid, total_le net (pushed k.trace x r) lawful)) in
     let alone : NoOther s.views id (debtor_of net x) =
     λ j u ne e t. not_both (its d.past v) k _ _ id j u v (debtor_of net x) ne f may.debtor (h.fits j u e t) in (
-      kept_again (its d.past v) s.words (set s.words (x + 1) word) s.views id _ v (showing v (raised v.shown x to))
-          (pushed k.trace x r) h at on refl refl refl (length-set s.words (x + 1) word)
-          (get_or-set_other s.words (x + 1) 0 word 0 (λ e. absurd (omega (arith, e))))
+      kept_again (its d.past v) s.words (set s.words i word) s.views id _ v (showing v (raised v.shown x to))
+          (pushed k.trace x r) h at on refl refl refl (length-set s.words i word)
+          (get_or-set_other s.words i 0 word 0 (λ e. absurd (omega (arith, e, at_i))))
           (λ y l. dite (ℕ_discrete y x)
-          (λ e. rw e (get_or-set_same s.words (x + 1) word 0 (omega (arith, h.size, lt)) ∙ is
+          (λ e. rw e (ap (slice_index (set s.words i word)) (sym at_i) ∙ get_or-set_same s.words i word 0 (omega (arith, h.size, low, at_i)) ∙ is
           ∙ ap word_of (sym (ending_here net k.trace h.lawful x lt r refl x refl))))
-          (λ ne. get_or-set_other s.words (x + 1) (y + 1) word 0 (λ e. ne (omega (arith, e))) ∙ h.stands y l
+          (λ ne. get_or-set_other s.words i (position_of net y + 1) word 0
+          (λ e. ne (one_place net y x l lt (omega (arith, e, at_i)))) ∙ h.stands y l
           ∙ ap word_of (sym (ending_else net k.trace h.lawful x lt r refl y ne))))
           lawful
           (λ j u ne e t g. other_suits d.past k _ _ v x to lt h.lawful paid j u g (alone j u ne e t))
           (λ f. raised_suits d.past k _ _ v x to lt h.lawful paid id may.not_the_master may.debtor sound f)
-          (rung_raise (its d.past v) k.trace s.words s.views id v at on h.rung x lt to word r may.debtor
+          (rung_raise (its d.past v) k.trace s.words s.views id v at on h.rung x lt i at_i to word r may.debtor
           f.sound.over.owes_ring alone (ending_rises net k.trace h.lawful x lt r refl paid)),
-      λ y e. let same : x ≡ y = omega arith in
+      λ y l e. let same : x ≡ y = one_place net x y lt l (omega (arith, e, at_i)) in
           subst (λ (z : ℕ × ℕ). (◌≡◌ {A = Me (Unit {0}) View} (showing v (raised v.shown x to), me.1)
           (showing v (raised v.shown z.0 z.1), me.1)) × IsSound (raised v.shown z.0 z.1))
           (λ i. (same i, value i)) (refl, sound),

@@ -29,10 +29,12 @@ use Rattle.pay_words.specs.Sound.{IsSound}
 use Rattle.pay_words.specs.Ringing.{IsCalm, OwesRing, rung, took}
 use Rattle.pay_words.specs.BoardRule.{BoardHistory, Suits, MeetsRule}
 use Rattle.pay_words.specs.Bells.{BellLedger, HasBells, IsCalled, IsRung, bell, taken_of, made_of}
+use Rattle.pay_words.specs.Positions.{position_of}
 use Rattle.pay_words.specs.Steps.{TakeTells, Rings, Glances, Takes, after_take, showing}
 use Rattle.pay_words.proofs.Tables.{tabled_at, length-tabled, changed}
 use Rattle.pay_words.proofs.Bells.{sum_views, sum_changed, one_less}
 use Rattle.pay_words.proofs.Rung.{NoOther}
+use Rattle.pay_words.proofs.SideBySide.{within}
 use Rattle.pay_words.proofs.Views.{rule, kept_again, not_both}
 
 -- the bank that a ring is owed to is one of the network
@@ -185,7 +187,8 @@ struck_kept past s id v w h b i m place at on live banks chief mine rings =
     kept_again (its past v) s.words (set s.words i m) s.views id
     (slice_index s.words 0) v w h.history.trace h at on live banks chief (length-set s.words i m)
     (low_still v.shown.net s.words b i m place 0 zero-le)
-    (λ x l. low_still v.shown.net s.words b i m place (x + 1) (omega (arith, l)) ∙ h.stands x l)
+    (λ x l. low_still v.shown.net s.words b i m place (position_of v.shown.net x + 1)
+    (omega (arith, within v.shown.net x l)) ∙ h.stands x l)
     h.lawful (λ _ _ _ _ _ f. f) mine rings
 
 -- a ring keeps the rule of the board

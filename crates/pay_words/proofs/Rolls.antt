@@ -5,6 +5,7 @@ use Rattle.atomic_table.specs.Table.{Me, Allows, keeps, step}
 use Rattle.pay_words.specs.declared.origin.Origin.{Origin}
 use Rattle.pay_words.specs.declared.view.View.{View}
 use Rattle.pay_words.specs.BoardRule.{Leads}
+use Rattle.pay_words.specs.Positions.{position_of}
 use Rattle.pay_words.specs.Steps.{Rolls}
 use Rattle.pay_words.proofs.Views.{rule, kept_again}
 use Rattle.pay_words.proofs.Rung.{rung_same}
@@ -23,7 +24,7 @@ rolls d slots id me n on chief room s h sized at small =
       tt,
       kept_again d s.words (set s.words 0 n) s.views id n v w k.trace h at on refl refl refl
           (length-set s.words 0 n) (get_or-set_same s.words 0 n 0 big)
-          (λ y l. get_or-set_other s.words 0 (y + 1) n 0 (λ e. absurd (omega (arith, e))) ∙ h.stands y l)
+          (λ y l. get_or-set_other s.words 0 (position_of d.net y + 1) n 0 (λ e. absurd (omega (arith, e))) ∙ h.stands y l)
           h.lawful
           (λ j u apart _ _ g.
           let leads : Leads d k n (length s.views) j u = λ e. absurd (apart ((g.leads e).0 ∙ sym (f.leads chief).0)) in

@@ -16,7 +16,9 @@ use Rattle.pay_words.specs.Traces.{Traces, ending}
 use Rattle.pay_words.specs.Holding.{holds}
 use Rattle.pay_words.specs.Paying.{looked, raised}
 use Rattle.pay_words.specs.Bells.{BellLedger, HasBells, IsRung, bell, bells_up, taken_of, made_of}
+use Rattle.pay_words.specs.Positions.{position_of}
 use Rattle.pay_words.specs.Steps.{showing}
+use Rattle.pay_words.proofs.SideBySide.{within}
 use Rattle.pay_words.proofs.Tables.{tabled_agree, changed}
 use Rattle.pay_words.proofs.Traces.{pushed}
 use Rattle.pay_words.proofs.Bells.{sum_views, marks_grow_by_one}
@@ -87,14 +89,14 @@ module _ (d : Origin) (t : Traces) (words : List ℕ) (views : List View) (id : 
     }
 
   -- a raise
-  module _ (x : ℕ) (lt : x < n) (to m : ℕ) (r : Raise) (mine : holds v.shown (debtor_of net x) ≡ true) (size : length v.shown.owes_ring ≡ n) (alone : NoOther views id (debtor_of net x)) where
+  module _ (x : ℕ) (lt : x < n) (i : ℕ) (place : i ≡ position_of net x + 1) (to m : ℕ) (r : Raise) (mine : holds v.shown (debtor_of net x) ≡ true) (size : length v.shown.owes_ring ≡ n) (alone : NoOther views id (debtor_of net x)) where
     -- the raises with this one
     abbrev more : Traces
     more = pushed t x r
 
     -- the words after the store
     abbrev now : List ℕ
-    now = set words (x + 1) m
+    now = set words i m
 
     -- what is kept after the raise: a ring is owed on the debt
     abbrev owing : BellLedger
@@ -102,7 +104,7 @@ module _ (d : Origin) (t : Traces) (words : List ℕ) (views : List View) (id : 
 
     -- the store leaves each bell
     same_bell : (b : ℕ) → bell net now b ≡ bell net words b
-    same_bell b = get_or-set_other words (x + 1) (n + 1 + b) m 0 (λ e. absurd (omega (arith, e, lt)))
+    same_bell b = get_or-set_other words i (n + 1 + b) m 0 (λ e. absurd (omega (arith, e, place, within net x lt)))
 
     -- a raise keeps the rule of the bells
     pub rung_raise : ((y : ℕ) → (ending (t y)).value ≤ (ending (more y)).value) → IsRung d more now (set views id (showing v (raised v.shown x to)))

@@ -1,5 +1,6 @@
 -- What a seat has in memory after each of its steps.
 use Rattle.pay_words.specs.Holding.{holds}
+use Rattle.pay_words.specs.Positions.{position_of}
 use Rattle.clear_core.specs.Clearing.{receipts}
 use Rattle.std.proofs.lemmas.Bool.{cond_both}
 use Rattle.pay_words.proofs.Splits.{goes_from, stays_if, sound_fewer}
@@ -153,3 +154,7 @@ pub bell_at : (s t : SeatView) (b c : BoardView) (place k : ℕ) → s ≡ t →
     → place ≡ length c.net.debts + 1 + k → place ≡ length s.shows.net.debts + 1 + k
 bell_at s t b c place k e f same d =
     omega (arith, d, ap (λ (n : Net). length n.debts) (ap (λ (x : SeatView). x.shows.net) e ∙ same))
+
+-- where the word of a debt stands is the same within
+pub position_at : (s t : SeatView) (b c : BoardView) (i x : ℕ) → s ≡ t → b ≡ c → t.shows.net ≡ c.net → i ≡ position_of c.net x → i ≡ position_of s.shows.net x
+position_at s t b c i x e f same is = is ∙ ap (λ (n : Net). position_of n x) (sym (net_within s t b c e f same ∙ ap (λ (y : BoardView). y.net) f))

@@ -10,6 +10,7 @@ use Rattle.pay_words.specs.declared.payment.Payment.{Payment}
 use Rattle.pay_words.specs.declared.view.View.{View}
 use Rattle.pay_words.specs.Ends.{values}
 use Rattle.pay_words.specs.BoardRule.{MeetsRule}
+use Rattle.pay_words.specs.Positions.{position_of}
 use Rattle.pay_words.specs.Standing.{StaysBelowLeast, KeepsStampsLow, payments_in}
 use Rattle.pay_words.specs.Traces.{Traces, ending, paid_in}
 use Rattle.pay_words.specs.Views.{BoardView}
@@ -24,14 +25,14 @@ module _ (d : Origin) (words : List ℕ) (views : List View) (h : MeetsRule d wo
   trace = h.history.trace
 
   -- the word of a debt holds what the debt's last raise left
-  pub stands : (x : ℕ) → x < length d.net.debts → payment_of (slice_index words (x + 1)) ≡ ending (trace x)
+  pub stands : (x : ℕ) → x < length d.net.debts → payment_of (slice_index words (position_of d.net x + 1)) ≡ ending (trace x)
   stands x lt = ap payment_of (h.stands x lt)
       ∙ read_back (ending (trace x)) (omega (arith, value_fits d.net trace h.lawful x lt h.network))
 
   -- so the values are what the raises paid
   pub values_are : values (payments_in d.net words) ≡ paid_in d.net trace
   values_are =
-      ap values (tabled_agree unpaid (length d.net.debts) (λ x. payment_of (slice_index words (x + 1))) (λ x. ending (trace x)) stands)
+      ap values (tabled_agree unpaid (length d.net.debts) (λ x. payment_of (slice_index words (position_of d.net x + 1))) (λ x. ending (trace x)) stands)
       ∙ map-map (λ (p : Payment). p.value) (λ x. ending (trace x)) (debt_numbers d.net)
 
   -- no payment is above the least one
@@ -41,10 +42,10 @@ module _ (d : Origin) (words : List ℕ) (views : List View) (h : MeetsRule d wo
   -- no stamp is above what is paid in all
   low : All (λ p. p.stamp ≤ sum (values (payments_in d.net words))) (payments_in d.net words)
   low k p lt =
-      let l : k < length d.net.debts = omega (arith, lt, length-tabled (length d.net.debts) (λ x. payment_of (slice_index words (x + 1)))) in
+      let l : k < length d.net.debts = omega (arith, lt, length-tabled (length d.net.debts) (λ x. payment_of (slice_index words (position_of d.net x + 1)))) in
       omega (
         arith,
-        ap (λ (q : Payment). q.stamp) (tabled_at (length d.net.debts) (λ x. payment_of (slice_index words (x + 1))) k p l ∙ stands k l),
+        ap (λ (q : Payment). q.stamp) (tabled_at (length d.net.debts) (λ x. payment_of (slice_index words (position_of d.net x + 1))) k p l ∙ stands k l),
         h.lawful.low k l,
         ap sum values_are,
       )

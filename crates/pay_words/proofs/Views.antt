@@ -13,6 +13,7 @@ use Rattle.atomic_table.specs.Table.{State}
 use Rattle.atomic_table.proofs.Lists.{at_set, set_here, set_else}
 use Rattle.pay_words.specs.declared.origin.Origin.{Origin}
 use Rattle.pay_words.specs.declared.view.View.{View}
+use Rattle.pay_words.specs.Positions.{position_of}
 use Rattle.pay_words.specs.Words.{word_of}
 use Rattle.pay_words.specs.Traces.{Traces, AreLawfulTraces, ending}
 use Rattle.clear_core.specs.Raised.{is_marked}
@@ -89,7 +90,7 @@ allowed d slots id me i f then w e step s h sized at small =
 pub kept_again : (d : Origin) (words now : List ℕ) (views : List View) (id roll : ℕ) (v w : View) (t : Traces) (h : MeetsRule d words views)
     → get_elem? views id ≡ some v → v.live ≡ true → w.live ≡ v.live → w.shown.banks ≡ v.shown.banks
     → w.shown.master ≡ v.shown.master → length now ≡ length words → slice_index now 0 ≡ roll
-    → ((x : ℕ) → x < length d.net.debts → slice_index now (x + 1) ≡ word_of (ending (t x))) → AreLawfulTraces d.net t
+    → ((x : ℕ) → x < length d.net.debts → slice_index now (position_of d.net x + 1) ≡ word_of (ending (t x))) → AreLawfulTraces d.net t
     → ((j : ℕ) (u : View) → j ≢ id → get_elem? views j ≡ some u → u.live ≡ true → Suits d h.history (slice_index words 0) (length views) j u
     → Suits d (record h.history { trace = t }) roll (length views) j u)
     → (Suits d h.history (slice_index words 0) (length views) id v → Suits d (record h.history { trace = t }) roll (length views) id w)

@@ -1,5 +1,5 @@
 -- The rule of a board, which holds between any two atomic steps.
--- Word 0 is the roll word, the words of the debts follow, and then the bells of the banks.
+-- Word 0 is the roll word, the words of the debts follow, by positions, and then the bells of the banks.
 use Rattle.std.specs.Prelude.{◌≡◌, ℕ, ◌+◌, ◌<◌, ◌≤◌, ◌++◌, Bool, true, [], false, All, List, length}
 use Rattle.std.specs.Prelude.{slice_index}
 use mathlib.Core.Option.{some}
@@ -17,6 +17,7 @@ use Rattle.pay_words.specs.Holding.{holds}
 use Rattle.pay_words.specs.Sound.{IsSound}
 use Rattle.pay_words.specs.Seating.{opening}
 use Rattle.pay_words.specs.Bells.{IsRung}
+use Rattle.pay_words.specs.Positions.{position_of}
 
 -- what no single seat knows: which seat holds each bank, which one is the master, the raises of the
 -- past and of the master, and those of each debt
@@ -87,7 +88,7 @@ pub record MeetsRule (origin : Origin) (words : List ℕ) (views : List View) : 
   pub size : length words ≡ 1 + length origin.net.debts + length origin.net.banks
   -- each payment word is that of the debt's last raise, and all raises are lawful
   pub stands : (x : ℕ) → x < length origin.net.debts
-      → slice_index words (x + 1) ≡ word_of (ending (history.trace x))
+      → slice_index words (position_of origin.net x + 1) ≡ word_of (ending (history.trace x))
   pub lawful : AreLawfulTraces origin.net history.trace
   pub known : All (λ r. r.debt.0 < length origin.net.debts) history.base
   -- each bank is held by the one seat that owns it, and there is a master

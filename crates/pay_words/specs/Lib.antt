@@ -1,6 +1,7 @@
--- words, and lists over banks and debts
+-- words and where they stand, and lists over banks and debts
 pub mod Words
 pub mod Tables
+pub mod Positions
 -- what contracts see of boards and seats, and what calls ask for and change
 pub mod Holding
 pub mod Sound

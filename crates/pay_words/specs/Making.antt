@@ -1,12 +1,25 @@
 -- What the inner halves of making a board and of handing out a seat ask for and answer.
-use Rattle.std.specs.Prelude.{◌≡◌, ℕ, ◌<◌, true, IfOk, List, OnErr, OnOk, Result}
+use Rattle.std.specs.Prelude.{◌≡◌, ℕ, ◌+◌, ◌<◌, true, IfOk, List, length, OnErr, OnOk, Result}
+use Rattle.std.specs.Prelude.{slice_index, slice_index_or}
 use Rattle.clr_net.specs.Net.{Net}
 use Rattle.clear_core.specs.declared.event.Raise.{Raise}
 use Rattle.pay_words.specs.declared.TheConstants.{MAX_SEATS}
 use Rattle.pay_words.specs.declared.payment.Payment.{Payment}
+use Rattle.pay_words.specs.Bells.{bell}
 use Rattle.pay_words.specs.Holding.{HoldsAllOf}
+use Rattle.pay_words.specs.Positions.{position_of}
 use Rattle.pay_words.specs.Seating.{handed, opening, without}
 use Rattle.pay_words.specs.Views.{BoardView, IsAt, SeatView}
+use Rattle.pay_words.specs.Words.{unpaid, word_of}
+
+-- the words of a new board: the roll word is 1, that of each debt has its payment, and the bells
+-- are all up
+pub record AreOpening (net : Net) (start : List Payment) (words : List ℕ) : Type 0 where
+  pub size : length words ≡ 1 + length net.debts + length net.banks
+  pub roll : slice_index words 0 ≡ 1
+  pub paid : (x : ℕ) → x < length net.debts
+      → slice_index words (position_of net x + 1) ≡ word_of (slice_index_or start x unpaid)
+  pub up : (b : ℕ) → b < length net.banks → bell net words b ≡ 1
 
 -- a board of the network for so many workers, on which the payments of a past stand, and its master
 pub record AreMade (net : Net) (workers : ℕ) (start : List Payment) (past : List Raise)

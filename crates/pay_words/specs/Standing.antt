@@ -7,6 +7,7 @@ use Rattle.pay_words.specs.declared.payment.Payment.{Payment}
 use Rattle.pay_words.specs.declared.view.View.{View}
 use Rattle.pay_words.specs.Ends.{values}
 use Rattle.pay_words.specs.BoardRule.{MeetsRule}
+use Rattle.pay_words.specs.Positions.{position_of}
 use Rattle.pay_words.specs.Tables.{tabled}
 use Rattle.pay_words.specs.Views.{BoardView}
 use Rattle.pay_words.specs.Words.{payment_of}
@@ -19,7 +20,8 @@ MayStand board words = (views : List View)
 
 -- the payments in the words of the debts, in file order
 abbrev pub payments_in : Net → List ℕ → List Payment
-payments_in net words = tabled (length net.debts) (λ x. payment_of (slice_index words (x + 1)))
+payments_in net words = tabled (length net.debts)
+    (λ x. payment_of (slice_index words (position_of net x + 1)))
 
 -- at no moment is a payment word of the board above the least clearing payments
 abbrev pub StaysBelowLeast : BoardView → Type 0

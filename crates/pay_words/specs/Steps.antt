@@ -2,7 +2,7 @@
 -- said of the step, whose `word` is the place of the word, of the seat before it, of the number that
 -- was found or stored, and of the seat after it. A seat of a table is its view and its slots, of
 -- which a board has none.
-use Rattle.std.specs.Prelude.{◌≡◌, ℕ, ◌+◌, ◌≤◌, ◌==◌, if◌then◌else◌, true, [], false, length}
+use Rattle.std.specs.Prelude.{◌≡◌, ℕ, ◌+◌, ◌<◌, ◌≤◌, ◌==◌, if◌then◌else◌, true, [], false, length}
 use Rattle.std.specs.Prelude.{slice_index}
 use Rattle.atomic_table.specs.Table.{Me, Step}
 use Rattle.clr_net.specs.Net.{empty_net, debtor_of}
@@ -11,6 +11,7 @@ use Rattle.pay_words.specs.declared.payment.Payment.{Payment}
 use Rattle.pay_words.specs.declared.view.Shown.{Shown}
 use Rattle.pay_words.specs.declared.view.View.{View}
 use Rattle.pay_words.specs.Words.{payment_of}
+use Rattle.pay_words.specs.Positions.{position_of}
 use Rattle.clear_core.specs.Raised.{is_marked}
 use Rattle.pay_words.specs.Holding.{HoldsAll, holds}
 use Rattle.pay_words.specs.Sound.{IsSound}
@@ -35,13 +36,15 @@ pub record LookTells (s : Shown) (x : ℕ) (p : Payment) : Type 0 where
 module _ {S : Type 0} where
   -- a load of a payment word: the view has looked at its debt, and what the word says is told
   abbrev pub Looks : Step S → Me S View → ℕ → Me S View → Type 0
-  Looks s v n w = (x : ℕ) → s.word ≡ x + 1
+  Looks s v n w = (x : ℕ) → x < length v.0.shown.net.debts
+      → s.word ≡ position_of v.0.shown.net x + 1
       → (w ≡ (showing v.0 (looked v.0.shown x (payment_of n)), v.1))
       × LookTells v.0.shown x (payment_of n)
 
   -- a store of a payment word: the view has raised its debt, and is sound still
   abbrev pub Raises : Step S → Me S View → ℕ → Me S View → Type 0
-  Raises s v n w = (x : ℕ) → s.word ≡ x + 1
+  Raises s v n w = (x : ℕ) → x < length v.0.shown.net.debts
+      → s.word ≡ position_of v.0.shown.net x + 1
       → (w ≡ (showing v.0 (raised v.0.shown x (payment_of n).value), v.1))
       × IsSound (raised v.0.shown x (payment_of n).value)
 

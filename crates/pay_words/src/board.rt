@@ -12,13 +12,14 @@ use crate::opening::{debtors_of, greatest_stamp, opening_words};
 use crate::origin::{Founding, Origin, origin_of};
 use crate::paid::Paid;
 use crate::payment::Payment;
+use crate::positions::Positions;
 use crate::record::Record;
 use crate::rule::Clearing;
 use crate::seat::PaySeat;
 use crate::view::View;
 use atomic_table::{Seat, Table};
 use clear_core::{Journal, Raise};
-use clr_net::{Mem, Network};
+use clr_net::{DebtId, Mem, Network};
 use std::alloc::Global;
 use std::marker::{Brand, Model};
 
@@ -29,9 +30,11 @@ use std::marker::{Brand, Model};
 /// place, which has its number of workers.
 #[derive(Drop)]
 pub struct Board {
-    // The roll word, a word for each debt, and the bells. The table's key has the origin.
+    // The roll word, a word for each debt, by positions, and the bells. The table's key has the
+    // origin.
     pub(crate) table: Table<(), View, Seat<(), Origin>, Clearing, Global>,
     pub(crate) debts: usize,
+    pub(crate) positions: Positions,
     // How many raises were made before the board.
     past: usize,
     pub(crate) workers: u32,
@@ -39,6 +42,7 @@ pub struct Board {
 
 impl Model for Board {
     ghost use Rattle.pay_words.specs.Memory.{IsLaidOut};
+    ghost use Rattle.pay_words.specs.Positions.{ArePositions};
     ghost use Rattle.pay_words.specs.Views.{BoardView};
     ghost use Rattle.std.specs.Prelude.{◌≡◌, length};
 
@@ -52,14 +56,15 @@ impl Model for Board {
 
     ghost invariant = { λ b. IsLaidOut b.table.shared.key.me.0.net b.table.shared.table_id.words
         b.table.shared.table_id.slots b.debts b.workers
-        × (b.past ≡ length b.table.shared.key.me.0.past) };
+        × (b.past ≡ length b.table.shared.key.me.0.past)
+        × ArePositions b.table.shared.key.me.0.net b.positions };
 }
 
 impl Board {
     /// A board on which the payments of a past stand, and its master, which holds all banks.
     ///
-    /// `start` is over all debts, in file order. Costs a walk over all debts, and for each worker a
-    /// list of their values, four bytes each.
+    /// `start` is over all debts, in file order. Costs walks over all banks and debts, and beside the
+    /// words eight bytes for each debt, and four for each debt and worker.
     pub fn make(
         alloc: Global,
         net: &Network,
@@ -91,14 +96,17 @@ impl Board {
         requires origin { C.origin ≡ record { net = net.now; past = past.now } }
         ensures { IfOk result (AreMade net.now workers start.now past.now) }
     {
-        let words = opening_words(alloc, start, net.banks() as usize)?;
+        let debts = net.debts() as usize;
+        let positions = Positions::of(alloc, net)?;
+        let words = opening_words(alloc, net, start, &positions)?;
         let lists = Paid::of_each(alloc, start, workers)?;
         let debtors = debtors_of(alloc, net)?;
         let origin = origin_of::<C>(alloc)?;
         let (table, seat) = Table::of_words(alloc, words.as_slice(), &origin)?;
         let board = Board {
             table,
-            debts: start.len(),
+            debts,
+            positions,
             past: past.len(),
             workers,
         };
@@ -126,13 +134,15 @@ impl Board {
         let Board {
             table,
             debts: _,
+            positions,
             past: _,
             workers: _,
         } = self;
         let PaySeat { seat, .. } = master;
         let closed = table.close_with(seat);
         for i in 0..into.len() {
-            let word = closed.word(i + 1);
+            let position = positions.of_debt(DebtId(i as u32));
+            let word = closed.word(position + 1);
             into[i] = Payment::of_word(word);
         }
         closed.free();

@@ -1,15 +1,14 @@
 //! What is done with a seat on a board: looks, raises, rings and takes.
-ghost use Rattle.clear_core.specs.Clearing.{least};
 ghost use Rattle.clear_core.specs.Raised.{is_marked};
-ghost use Rattle.clr_net.specs.Net.{creditor_of, debtor_of};
+ghost use Rattle.clr_net.specs.Net.{creditor_of};
 ghost use Rattle.pay_words.specs.Holding.{HoldsAll, holds};
 ghost use Rattle.pay_words.specs.Paying.{MayRaise, looked, raised};
+ghost use Rattle.pay_words.specs.Positions.{first_position, position_of};
 ghost use Rattle.pay_words.specs.Ringing.{HasSeenAll, HasSeenFloor, IsCalm, OwesNoRing, OwesRing};
 ghost use Rattle.pay_words.specs.Ringing.{rung, took};
-ghost use Rattle.pay_words.specs.Steps.{TakeTells, after_take};
+ghost use Rattle.pay_words.specs.Steps.{LookTells, TakeTells, after_take};
 ghost use Rattle.pay_words.specs.Views.{IsAt};
-ghost use Rattle.std.specs.Prelude.{◌≡◌, ◌+◌, ◌<◌, ◌≤◌, if◌then◌else◌, false, length, slice_index};
-ghost use Rattle.std.specs.Prelude.{true};
+ghost use Rattle.std.specs.Prelude.{◌≡◌, ◌+◌, ◌<◌, if◌then◌else◌, false, length, true};
 
 use crate::board::Board;
 use crate::payment::Payment;
@@ -20,31 +19,33 @@ use clr_net::{BankId, DebtId};
 impl Board {
     /// Looks at what is paid on a debt to a bank of the seat, by one atomic load. Takes no memory.
     ///
-    /// It finds no less than the seat saw before or knows to be paid, and no more than the least
-    /// clearing payment; and of a debt that a bank of the seat owes, what the seat pays.
-    pub fn look(&self, seat: &mut PaySeat, debt: DebtId) -> Payment
+    /// The caller says where the debt's word stands: those of the debts to a bank, in file order,
+    /// stand side by side from [`first`](Board::first) on. A look finds no less than the seat saw
+    /// before or knows to be paid, and no more than the least clearing payment; and of a debt that a
+    /// bank of the seat owes, what the seat pays.
+    pub fn look_at(&self, seat: &mut PaySeat, debt: DebtId, position: usize) -> Payment
         requires seat { IsAt self.now seat.old }
         requires not_the_master { seat.old.shows.master ≡ false }
         requires debt { debt.0 < length self.now.net.debts }
+        requires position { position ≡ position_of self.now.net debt.0 }
         requires creditor { holds seat.old.shows (creditor_of self.now.net debt.0) ≡ true }
         ensures table { seat.new.table ≡ seat.old.table }
         ensures seen { seat.new.shows ≡ looked seat.old.shows debt.0 result }
-        ensures not_below_the_floor { slice_index seat.old.shows.floor debt.0 ≤ result.value }
-        ensures never_falls { slice_index seat.old.shows.sights debt.0 ≤ result.value }
-        ensures below_least { result.value ≤ slice_index (least self.now.net) debt.0 }
-        ensures own { holds seat.old.shows (debtor_of self.now.net debt.0) ≡ true
-            → result ≡ record {
-              value = slice_index seat.old.shows.paid debt.0;
-              stamp = slice_index seat.old.shows.paid_stamps debt.0;
-            } }
+        ensures tells { LookTells seat.old.shows debt.0 result }
     {
-        let word = self
-            .table
-            .shared
-            .load::<Look>(&mut seat.seat, debt.0 as usize + 1);
+        let word = self.table.shared.load::<Look>(&mut seat.seat, position + 1);
         let found = Payment::of_word(word);
         seat.clock = seat.clock.max(found.stamp);
         found
+    }
+
+    /// The position at which the words of the debts to a bank begin: that of the first of them, in
+    /// file order. No atomic step, and takes no memory.
+    pub fn first(&self, bank: BankId) -> usize
+        requires { bank.0 < length self.now.net.banks }
+        ensures { result ≡ first_position self.now.net bank.0 }
+    {
+        self.positions.first(bank)
     }
 
     /// Raises what is paid on a debt of a bank of the seat to so many units, by one atomic store,
@@ -59,7 +60,7 @@ impl Board {
         let stamp = seat.clock + 1;
         self.table.shared.store::<Rise>(
             &mut seat.seat,
-            debt.0 as usize + 1,
+            self.positions.of_debt(debt) + 1,
             Payment { value: to, stamp }.word(),
         );
         seat.clock = stamp;

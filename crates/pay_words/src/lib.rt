@@ -10,11 +10,14 @@
 //! Whatever the threads do, no word passes the least clearing payments, and all raises, put in the
 //! order of their stamps, are a lawful journal that replays to the payments. A look and a raise
 //! cost one atomic step. Handing out a seat and taking one back cost no more: time that does not
-//! grow with the network, and no memory. Making a board costs a walk over all debts, and for each
-//! worker a list of their values, four bytes each. Closing it costs one walk.
+//! grow with the network, and no memory. Making a board costs walks over all debts, and beside the
+//! words four bytes for each debt and worker, and eight for each debt. Closing it costs one walk.
+//!
+//! The words of the debts to one bank stand side by side (`specs/Positions.antt`), since a visit
+//! looks at all of them: so they are read in a row, and not each from a line of its own.
 //!
 //! `board.rt` makes a board and closes it, `seating.rt` hands seats out and takes them back, and
-//! `calls.rt` looks, raises, rings and takes. What each call changes of what a seat shows stands in
+//! `calls.rt` looks, raises, rings and takes. The program calls nothing of `plain.rt`. What each call changes of what a seat shows stands in
 //! `specs/Seating.antt`, `specs/Paying.antt` and `specs/Ringing.antt`. Beneath them lies the rule of
 //! a board (`rule.rt`), which holds between any two atomic steps: `specs/BoardRule.antt` for the
 //! payments and `specs/Bells.antt` for the bells. What a caller may rely on is in [`laws`].
@@ -30,6 +33,7 @@
 //! - `BoardHistory`: what no single seat knows of banks and raises.
 //! - `BellLedger`: what no single seat knows of bells.
 //! - `SeatMemory`: the lists of payments that a seat has in memory.
+//! - `Positions`: where the words of debts stand among each other.
 //! - `Sealed`: a record of a board.
 #![tactic(auto)]
 
@@ -40,6 +44,8 @@ mod opening;
 mod origin;
 mod paid;
 mod payment;
+mod plain;
+mod positions;
 mod record;
 mod rule;
 mod seat;

@@ -1,35 +1,36 @@
 //! What a board begins with.
 ghost use Rattle.clr_net.specs.Net.{debt_numbers, debtor_of};
-ghost use Rattle.clr_net.specs.declared.TheConstants.{MAX_BANKS, MAX_DEBTS};
+ghost use Rattle.pay_words.specs.Making.{AreOpening};
+ghost use Rattle.pay_words.specs.Positions.{ArePositions};
 ghost use Rattle.pay_words.specs.Seating.{greatest};
 ghost use Rattle.pay_words.specs.Words.{word_of};
-ghost use Rattle.std.specs.Prelude.{◌≡◌, ◌+◌, ◌^◌, ◌<◌, ◌≤◌, ◌∷◌, ◌++◌, All, IfOk, length, map};
-ghost use Rattle.std.specs.Prelude.{replicate};
+ghost use Rattle.std.specs.Prelude.{◌≡◌, ◌^◌, ◌<◌, All, IfOk, length, map};
 
 use crate::payment::Payment;
+use crate::positions::Positions;
 use clr_net::{DebtId, Network};
 use std::alloc::{AllocError, Global};
 
-/// The words of a new board: the roll word, at 1, those of the payments, and the bells, which are
-/// all up.
+/// The words of a new board: the roll word, at 1, those of the payments, by the positions of their
+/// debts, and the bells, which are all up.
 pub(crate) fn opening_words(
     alloc: Global,
+    net: &Network,
     start: &[Payment],
-    banks: usize,
+    positions: &Positions,
 ) -> Result<Vec<u64>, AllocError>
-    requires debts { length start.now ≤ MAX_DEBTS }
-    requires banks { banks ≤ MAX_BANKS }
+    requires start { length start.now ≡ length net.now.debts }
+    requires positions { ArePositions net.now positions.now }
     requires fit { All (λ p. word_of p < 2 ^ 64) start.now }
-    ensures { IfOk result
-        (λ words. words.items ≡ 1 ∷ (map word_of start.now ++ replicate banks 1)) }
+    ensures { IfOk result (λ words. AreOpening net.now start.now words.items) }
 {
-    let size = 1 + start.len() + banks;
+    let size = 1 + net.debts() as usize + net.banks() as usize;
     let mut words = Vec::with_capacity(alloc, size)?;
-    words.push_reserved(1);
-    for payment in start {
-        words.push_reserved(payment.word());
-    }
     words.resize(size, 1)?;
+    for number in 0..net.debts() {
+        let position = positions.of_debt(DebtId(number));
+        words[position + 1] = start[number as usize].word();
+    }
     Ok(words)
 }
 

@@ -37,7 +37,7 @@ fn round_called(net: &Network, board: &Board, worker: &mut Worker, gate: &Number
     prove!(net.banks() <= MAX_BANKS);
     prove!(worker.desks() <= MAX_BANKS as usize);
     let mut called = BankSet::all();
-    worker.round_called(board, 7, gate, &mut called)
+    worker.round_over(board, 7, gate, &mut called, None)
 }
 
 fn asked(net: &Network, board: &Board, worker: &mut Worker, deed: Deed, gate: &Numbers) -> Visit

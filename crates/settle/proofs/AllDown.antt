@@ -11,6 +11,7 @@ use Rattle.bank_worker.specs.Views.{Divides}
 use Rattle.pay_words.specs.BoardRule.{MeetsRule, Suits}
 use Rattle.pay_words.specs.Bells.{HasBells, IsCalled, IsRung, bell}
 use Rattle.pay_words.specs.Ends.{values}
+use Rattle.pay_words.specs.Positions.{position_of}
 use Rattle.pay_words.specs.Standing.{payments_in}
 use Rattle.pay_words.specs.Traces.{ending}
 use Rattle.pay_words.specs.Views.{BoardView, holds, tabled}
@@ -110,7 +111,7 @@ module _ (d : Origin) (words : List ℕ) (views : List View) (id : ℕ) (v : Vie
   words_show : values (payments_in d.net words) ≡ v.shown.paid
   words_show =
       let shown : ℕ → Payment = λ x. record { value = slice_index v.shown.paid x; stamp = slice_index v.shown.paid_stamps x } in
-      ap values (tabled_agree unpaid (length d.net.debts) (λ x. payment_of (slice_index words (x + 1))) shown
+      ap values (tabled_agree unpaid (length d.net.debts) (λ x. payment_of (slice_index words (position_of d.net x + 1))) shown
       (λ x lx. stands d words views h x lx ∙ sym (pays x lx)))
       ∙ ap (λ (m : Net). values (tabled (length m.debts) shown)) (sym idle.net_is)
       ∙ values_shown v.shown fits.sound.over.paid

@@ -14,7 +14,8 @@ use std::mem;
 // Of so many workers the raises are merged.
 const FEW_WORKERS: usize = 8;
 
-// So many raises are not copied where they need not be. The room of fewer stays with their worker.
+// So many raises are not copied where they need not be. Fewer are, which costs little, and a worker
+// keeps the room of a list that is short (`Office::keep`).
 const MANY_RAISES: usize = 1_000;
 
 /// Notes the raises of one of so many workers. Where these went one after another, none waits, and

@@ -1,12 +1,14 @@
 use Rattle.std.proofs.Common.{rules, ◌≡◌, ◌++◌, true, length, vec_capacity, sym, ap, ◌∙◌, subst, arith, refl, sum}
 use Rattle.std.proofs.Math.Seq.{drop-append_seam}
-use Rattle.clr_net.specs.Net.{numbers, row, column}
+use Rattle.clr_net.specs.Net.{Net, numbers, row, column}
 use Rattle.clear_core.proofs.BankPays.{length-division}
 use Rattle.clear_core.proofs.Rows.{as_many_numbers, length-column_le}
 use Rattle.clear_core.specs.Clearing.{division, receipts}
 use Rattle.bank_desk.specs.Desks.{BankView, desk_of, target}
 use Rattle.pay_words.specs.declared.view.Shown.{Shown}
 use Rattle.pay_words.specs.Views.{holds}
+use Rattle.pay_words.proofs.Places.{held_in_range}
+use Rattle.pay_words.proofs.SideBySide.{side_by_side}
 use Rattle.bank_worker.specs.Offices.{OfficeView}
 use Rattle.bank_worker.specs.Raises.{IsRaised}
 use Rattle.bank_worker.specs.Views.{desk_at}
@@ -34,6 +36,18 @@ look_at_all-received-requires-clause-working c =
 pub look_at_all-received-requires-clause-debts : goal.look_at_all-received-requires-clause-debts
 look_at_all-received-requires-clause-debts c =
     rw (ins c) (column_held c.args.seat.now.shows c.at-desk.result.now.bank (there c).held)
+
+pub first-first-requires : goal.first-first-requires
+first-first-requires c =
+    let d : IsDeskOf c.args.seat.now.shows c.at-desk.result.now = rw (c.at-desk.ensures ∙ ap (λ (o : OfficeView). desk_at o.desks c.args.place) c.self.view_is)
+    (desk_is c.args.seat.now.shows c.args.self.now.desks c.args.place c.requires.staffed.office.desks c.requires.place) in
+    omega (arith, held_in_range c.args.seat.now.shows c.at-desk.result.now.bank c.clock.ensures.over d.held, c.bank.ensures.bank, ap (λ (n : Net). length n.banks) c.requires.seat.1)
+
+pub look_at_all-received-requires-clause-positions : goal.look_at_all-received-requires-clause-positions
+look_at_all-received-requires-clause-positions c =
+    let b = c.at-desk.result.now.bank in
+    let net = c.args.board.now.net in
+    rw (ins c ∙ ap (λ (n : Net). column n b) c.requires.seat.1, c.first-first.ensures, c.bank.ensures.bank) (side_by_side net b)
 
 pub look_at_all-received-requires-clause-few : goal.look_at_all-received-requires-clause-few
 look_at_all-received-requires-clause-few c =
