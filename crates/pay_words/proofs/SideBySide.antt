@@ -1,5 +1,5 @@
 -- Where the words of debts stand: each debt has a place of its own, and those to one bank stand side by side.
-use Rattle.std.proofs.Common.{◌≡◌, ℕ, ◌+◌, ◌<◌, ◌≤◌, ◌==◌, nat_lt, Bool, cond, List, [], ◌∷◌, length, get_or, count_by, refl, sym, subst, ap, ◌∙◌, arith, add-zero, eqb-true, eq-eqb, length-set, get_or-set_same, get_or-set_other, set}
+use Rattle.std.proofs.Common.{◌≡◌, ℕ, ◌+◌, ◌<◌, ◌≤◌, ◌==◌, nat_lt, Bool, cond, List, [], ◌∷◌, length, get_or, count_by, refl, sym, subst, ap, ◌∙◌, arith, eqb-true, eq-eqb, length-set, get_or-set_same, get_or-set_other, set}
 use Rattle.std.specs.List.{range_with_len}
 use Rattle.std.proofs.lemmas.Bool.Decides.{nat_tests}
 use Rattle.std.proofs.lemmas.List.FromFn.{length-range_with_len}
@@ -126,10 +126,6 @@ module _ (net : Net) where
   -- that is where the debt m stands, of its creditor
   pub next_is : (m : ℕ) → next_position m (creditor_of net m) ≡ position_of net m
   next_is m = sym (position_is m)
-
-  -- at first each bank has none
-  pub next_zero : (b : ℕ) → next_position 0 b ≡ first_position net b
-  next_zero b = add-zero (first_position net b)
 
   -- a debt more to a bank
   owed_more : (b m : ℕ) → owed_among net b (m + 1) ≡ owed_among net b m + cond (creditor_of net m == b) 1 0
