@@ -11,29 +11,16 @@ use Rattle.clr_net.specs.declared.TheConstants.{MAX_BANKS}
 use Rattle.bank_desk.specs.Desks.{BankView}
 use Rattle.pay_words.specs.declared.view.Shown.{Shown}
 use Rattle.pay_words.specs.Views.{holds, is_marked}
-use Rattle.bank_worker.specs.BankSets.{AreSetOut, HaveNoneInBoth, is_in}
+use Rattle.bank_worker.specs.BankSets.{AreInPlace, HaveNoneInBoth, is_in}
 use Rattle.bank_worker.specs.Called.{AreCalledOrAtRest, AreCalledTo, AreCreditorsIn, CallsOthers, KeepsOthers, StayIn}
 use Rattle.bank_worker.specs.Raises.{debts_of}
 use Rattle.bank_worker.specs.Rings.{creditors_of}
-use Rattle.bank_worker.specs.Rising.{Rises}
-use Rattle.bank_worker.specs.Views.{WorkerView, banks_held, banks_of, desk_at, desks_held}
+use Rattle.bank_worker.specs.Views.{WorkerView, desk_at, desks_held}
 use Rattle.bank_worker.specs.Visits.{IsSameSeat, IsSameWorker, IsVisited, with_bell}
-use Rattle.bank_worker.proofs.Filtered.{filter_rises}
 use Rattle.bank_worker.proofs.Manned.{desk_is}
-use Rattle.bank_worker.proofs.PlacesOfBanks.{banks_of_desks, not_after}
+use Rattle.bank_worker.proofs.PlacesOfBanks.{not_after}
 use Rattle.bank_worker.proofs.Raising.{raised_in_either, length-debts_of}
 use Rattle.bank_worker.proofs.Ringing.{creditor_noted, debt_of_raise, length-creditors_of}
-
--- the banks of a worker's desks, which rise, and of which there is a set
-pub record AreInPlace (banks mine : List ℕ) (workers : ℕ) : Type 0 where
-  pub rise : Rises banks
-  pub out : AreSetOut mine workers banks
-
--- those of the desks of a seat are so
-pub in_place : (s : Shown) (desks : List BankView) (banks mine : List ℕ) (workers : ℕ) → desks ≡ desks_held s → banks ≡ banks_of desks
-    → AreSetOut mine workers (banks_held s) → AreInPlace banks mine workers
-in_place s desks banks mine workers are banks_are out =
-    rw (banks_are ∙ ap banks_of are ∙ banks_of_desks s.net (banks_held s)) (record { rise = filter_rises (holds s) 0 (length s.net.banks); out = out })
 
 -- a bank of the set from one on stands in no earlier place, and where none before it is in both sets, none that stands between
 -- them is called

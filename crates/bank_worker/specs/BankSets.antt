@@ -1,7 +1,10 @@
 -- Which banks are in a set.
-use Rattle.std.specs.Prelude.{◌≡◌, ℕ, ◌<◌, ◌≤◌, ◌==◌, ◌/◌, ◌%◌, Bool, true, false, List, length}
+use Rattle.std.specs.Prelude.{◌≡◌, ℕ, ◌<◌, ◌≤◌, ◌==◌, ◌/◌, ◌%◌, All, Bool, true, false, List}
+use Rattle.std.specs.Prelude.{length}
 use Rattle.std.specs.Prelude.{slice_index}
 use Rattle.std.specs.Int.{bit_at}
+use Rattle.clr_net.specs.declared.TheConstants.{MAX_BANKS}
+use Rattle.bank_worker.specs.Rising.{Rises}
 
 -- whether the bank b is one of the set of these words
 abbrev pub is_in : List ℕ → ℕ → Bool
@@ -17,3 +20,9 @@ pub record AreSetOut (set : List ℕ) (workers : ℕ) (banks : List ℕ) : Type 
   pub placed : (k : ℕ) → k < length banks
       → (is_in set (slice_index banks k) ≡ true) × (slice_index banks k / workers ≡ k)
   pub only : (b : ℕ) → is_in set b ≡ true → (k : ℕ) × (k < length banks) × (slice_index banks k ≡ b)
+
+-- the banks of a worker among so many: they rise, there may be each, and there is a set of them
+pub record AreInPlace (banks set : List ℕ) (workers : ℕ) : Type 0 where
+  pub rise : Rises banks
+  pub known : All (λ b. b < MAX_BANKS) banks
+  pub out : AreSetOut set workers banks

@@ -6,19 +6,16 @@ use Rattle.clr_net.specs.Net.{Net}
 use Rattle.clear_core.specs.Buffers.{HasRoom}
 use Rattle.bank_desk.specs.Desks.{BankView, desk_of}
 use Rattle.pay_words.specs.Views.{is_of_worker}
-use Rattle.bank_worker.specs.BankSets.{AreSetOut}
 use Rattle.bank_worker.specs.Rings.{creditors_of}
 
 -- an office: its desks, the number of its worker, the creditor of each debt, how many banks it can
--- mark, the longest row for which it has room, the set of its banks, and how many workers there are
+-- mark, and the longest row for which it has room
 pub record OfficeView : Type 0 where
   pub desks : List BankView
   pub worker : ℕ
   pub creditors : List ℕ
   pub marks : ℕ
   pub room : ℕ
-  pub mine : List ℕ
-  pub workers : ℕ
 
 -- the banks of the worker i among so many, in file order
 abbrev pub banks_of_worker : Net → ℕ → ℕ → List ℕ
@@ -32,4 +29,3 @@ pub record IsOfficeFor (net : Net) (banks : List ℕ) (o : OfficeView) : Type 0 
   pub creditors : o.creditors ≡ creditors_of net
   pub marks : o.marks ≡ length net.banks
   pub room : HasRoom net o.room
-  pub mine : AreSetOut o.mine o.workers banks

@@ -94,8 +94,8 @@ pub record AreNoted (desk : BankView) (s t : Shown) : Type 0 where
   pub divides : DividesOf (loaded_in (acts_of s.net desk (last_seen t) made)) t desk
   pub raised : AreRaisedBy desk (loaded_in (acts_of s.net desk (last_seen t) made)) made
 
--- no debt of the bank owes a ring, and for another bank of the seat nothing changed; nor did the
--- fresh marks and the bells taken
+-- no debt of the bank owes a ring. For the other banks of the seat nothing changed, and the fresh
+-- marks and the bells taken are as before
 pub record RingsAll (desk : BankView) (s t : Shown) : Type 0 where
   pub row : (x : ℕ) → x < length s.net.debts → debtor_of s.net x ≡ desk.bank
       → is_marked t.owes_ring x ≡ false

@@ -1,26 +1,33 @@
 //! The desks of a worker.
 ghost use Rattle.bank_desk.specs.Desks.{desk_of, with_cash_in};
+ghost use Rattle.bank_worker.specs.BankSets.{is_in};
 ghost use Rattle.bank_worker.specs.Offices.{banks_of_worker};
+ghost use Rattle.bank_worker.specs.Rings.{is_among};
 ghost use Rattle.bank_worker.specs.Views.{banks_of, desk_at};
 ghost use Rattle.clr_net.specs.Net.{cash_of as cash_in};
-ghost use Rattle.clr_net.specs.declared.TheConstants.{MAX_CASH};
-ghost use Rattle.std.specs.Prelude.{◌≡◌, ◌<◌, ◌≤◌, All, IfOk, length, map};
+ghost use Rattle.clr_net.specs.declared.TheConstants.{MAX_BANKS, MAX_CASH};
+ghost use Rattle.std.specs.Prelude.{◌≡◌, ◌<◌, ◌≤◌, ℕ, All, IfOk, false, length, map};
 
+use crate::bank_set::BankSet;
 use bank_desk::Desk;
 use clr_net::{BankId, Mem, Network};
 use std::alloc::Global;
 use std::marker::Model;
 
-/// The desks of a worker, in file order, and beside them the bank of each, so that a sweep reaches
-/// no desk whose bell is down.
+/// The desks of a worker, in file order, and beside them the bank of each, as a list and as a set,
+/// so that a sweep reaches no desk whose bell is down.
 #[derive(Drop)]
 pub struct Desks {
     desks: Vec<Desk>,
     banks: Vec<u32>,
+    set: BankSet,
+    // How many workers there are. The worker i among n has the banks i, i + n, i + 2 n and so on.
+    workers: u32,
 }
 
 impl Model for Desks {
     ghost use Rattle.bank_desk.specs.Desks.{BankView};
+    ghost use Rattle.bank_worker.specs.BankSets.{AreInPlace};
     ghost use Rattle.bank_worker.specs.Views.{banks_of};
     ghost use Rattle.std.specs.Prelude.{◌≡◌, List};
 
@@ -28,7 +35,8 @@ impl Model for Desks {
 
     ghost view = { λ d. d.desks.items };
 
-    ghost invariant = { λ d. d.banks.items ≡ banks_of d.desks.items };
+    ghost invariant = { λ d. (d.banks.items ≡ banks_of d.desks.items)
+        × AreInPlace d.banks.items d.set d.workers };
 }
 
 impl Desks {
@@ -46,7 +54,13 @@ impl Desks {
                 banks.push(number)?;
             }
         }
-        Ok(Desks { desks, banks })
+        let set = set_of(banks.as_slice());
+        Ok(Desks {
+            desks,
+            banks,
+            set,
+            workers,
+        })
     }
 
     /// Gives each desk the cash that its bank has in a network, and changes nothing else. Takes no
@@ -79,6 +93,38 @@ impl Desks {
     {
         self.banks.as_slice()
     }
+
+    /// A place from this one on between which and this one no desk's bank is called, and past all
+    /// desks if there is none: the place of the next desk whose bank is. Costs a look at each word
+    /// of a set between them.
+    pub fn next_called(&self, called: &BankSet, from: usize) -> usize
+        requires from { from ≤ length self.now }
+        ensures ahead { from ≤ result }
+        ensures none_before { (k : ℕ) → from ≤ k → k < result → k < length self.now
+            → is_in called.now (desk_at self.now k).bank ≡ false }
+    {
+        let banks = self.banks.as_slice();
+        if from == banks.len() {
+            return from;
+        }
+        let last = banks[banks.len() - 1];
+        match self.set.first_in_both(called, banks[from], last) {
+            Some(bank) => (bank.0 / self.workers) as usize,
+            None => banks.len(),
+        }
+    }
+}
+
+// The set of these banks.
+fn set_of(banks: &[u32]) -> BankSet
+    requires { All (λ b. b < MAX_BANKS) banks.now }
+    ensures { (b : ℕ) → is_in result b ≡ is_among banks.now b }
+{
+    let mut set = BankSet::none();
+    for bank in banks {
+        set.add(BankId(*bank));
+    }
+    set
 }
 
 // Gives each of these desks the cash that its bank has in a network.

@@ -8,7 +8,6 @@ ghost use Rattle.clr_net.specs.declared.TheConstants.{MAX_OWED};
 ghost use Rattle.pay_words.specs.Views.{IsAt};
 ghost use Rattle.std.specs.Prelude.{◌≡◌, ◌<◌, ◌≤◌, [], All, IfOk, length, map};
 
-use crate::bank_set::BankSet;
 use crate::desks::Desks;
 use crate::looks::look_at_all;
 use crate::raises::raise_all;
@@ -48,8 +47,6 @@ impl Model for Office {
       creditors = o.workspace.value.creditors.items;
       marks = vec_len o.workspace.value.marks;
       room = vec_capacity o.workspace.value.targets;
-      mine = o.workspace.value.mine;
-      workers = o.workspace.value.workers;
     } };
 
     ghost invariant = { λ o. AreMarksUpTo o.workspace.value.counted o.workspace.value.marks.items };
@@ -63,9 +60,10 @@ impl Office {
             (λ o. IsOfficeFor net.now (banks_of_worker net.now workers worker) o) }
         ensures worker { IfOk result (λ o. o.worker ≡ worker) }
     {
+        // The network is within its limits, as the number of its banks tells.
         prove!(net.banks() <= MAX_BANKS);
         let desks = Desks::of(alloc, net, worker, workers)?;
-        let workspace = Workspace::of(alloc, net, desks.banks(), workers)?;
+        let workspace = Workspace::of(alloc, net)?;
         let workspace = Box::new(alloc, workspace)?;
         Ok(Office {
             desks,
@@ -120,20 +118,6 @@ impl Office {
         self.worker
     }
 
-    // How many workers there are.
-    pub(crate) fn workers(&self) -> u32
-        ensures { result ≡ self.now.workers }
-    {
-        self.workspace.workers
-    }
-
-    // The banks of the desks.
-    pub(crate) fn banks(&self) -> &BankSet
-        ensures { result.now ≡ self.now.mine }
-    {
-        &self.workspace.mine
-    }
-
     // The creditor of each debt.
     pub(crate) fn creditors(&self) -> &[u16]
         ensures { result.now ≡ self.now.creditors }
@@ -165,6 +149,7 @@ impl Office {
         let desk = self.desks.at(place);
         let space = &mut *self.workspace;
         space.count_visit();
+        // The clock tells that what the seat shows is sound: here before the looks, and then after.
         prove!(seat.clock() <= MAX_OWED);
         let first = board.first(desk.bank());
         let received = look_at_all(board, seat, desk.debts_in(), first);

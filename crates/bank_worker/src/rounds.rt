@@ -43,6 +43,7 @@ impl Worker {
         ensures keeps_others { KeepsOthers self.old.seat.shows called.old called.new }
         ensures rung { CallsOthers self.old self.new called.new }
     {
+        // As each desk is of a bank of its own, units and visits of all sweeps fit.
         let desks = self.desks();
         prove!(desks <= MAX_BANKS as usize);
         let last = self.last();
@@ -94,23 +95,14 @@ impl Worker {
         }
     }
 
-    // The first place from this one on whose bank is called, or a place past all desks.
+    // The next place from this one on whose bank is called, or one past all desks.
     fn next_called(&self, called: &BankSet, from: usize) -> usize
         requires from { from ≤ length self.now.desks }
         ensures ahead { from ≤ result }
         ensures none_before { (k : ℕ) → from ≤ k → k < result → k < length self.now.desks
             → is_in called.now (desk_at self.now.desks k).bank ≡ false }
     {
-        let banks = self.office.desks().banks();
-        if from == banks.len() {
-            return from;
-        }
-        let last = self.bank(banks.len() - 1);
-        let mine = self.office.banks();
-        match mine.first_in_both(called, banks[from], last.0) {
-            Some(bank) => (bank.0 / self.office.workers()) as usize,
-            None => banks.len(),
-        }
+        self.office.desks().next_called(called, from)
     }
 
     // The bank of the last desk, or the first bank of all where there is no desk.

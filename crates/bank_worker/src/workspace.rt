@@ -1,16 +1,14 @@
 //! What an office has beside its desks, and keeps from visit to visit.
 ghost use Rattle.bank_desk.specs.Desks.{target};
-ghost use Rattle.bank_worker.specs.BankSets.{is_in};
-ghost use Rattle.bank_worker.specs.Rings.{AreMarksBelow, AreMarksUpTo, creditors_of, is_among};
+ghost use Rattle.bank_worker.specs.Rings.{AreMarksBelow, AreMarksUpTo, creditors_of};
 ghost use Rattle.clear_core.specs.Buffers.{HasRoom};
 ghost use Rattle.clr_net.specs.Net.{creditor_of};
-ghost use Rattle.clr_net.specs.declared.TheConstants.{MAX_BANKS, MAX_OWED};
-ghost use Rattle.std.specs.Prelude.{◌≡◌, ◌<◌, ◌≤◌, ℕ, All, IfOk, length, vec_capacity};
+ghost use Rattle.clr_net.specs.declared.TheConstants.{MAX_OWED};
+ghost use Rattle.std.specs.Prelude.{◌≡◌, ◌<◌, ◌≤◌, IfOk, length, vec_capacity};
 
-use crate::bank_set::BankSet;
 use bank_desk::Desk;
 use clear_core::{Raise, blank, longest_row};
-use clr_net::{BankId, DebtId, MAX_BANKS, Mem, Network};
+use clr_net::{DebtId, MAX_BANKS, Mem, Network};
 use std::alloc::Global;
 
 // The workspace of an office.
@@ -25,38 +23,24 @@ pub(crate) struct Workspace {
     pub(crate) counted: u64,
     // What the bank that is visited should pay on each of its debts.
     pub(crate) targets: Vec<u64>,
-    // The banks of the desks, and how many workers there are.
-    pub(crate) mine: BankSet,
-    pub(crate) workers: u32,
     // Room for the raises of the next seat.
     pub(crate) raises: Vec<Raise>,
 }
 
 impl Workspace {
-    // The workspace of a worker among so many, whose desks are those of these banks. Costs a walk
-    // over all debts.
-    pub(crate) fn of(
-        alloc: Global,
-        net: &Network,
-        banks: &[u32],
-        workers: u32,
-    ) -> Result<Workspace, Mem>
-        requires { All (λ b. b < MAX_BANKS) banks.now }
+    // The workspace of a worker. Costs a walk over all debts.
+    pub(crate) fn of(alloc: Global, net: &Network) -> Result<Workspace, Mem>
         ensures creditors { IfOk result (λ w. w.creditors.items ≡ creditors_of net.now) }
         ensures marks { IfOk result (λ w. AreMarksUpTo w.counted w.marks.items) }
         ensures a_mark_each { IfOk result
             (λ w. length w.marks.items ≡ length net.now.banks) }
         ensures room { IfOk result (λ w. HasRoom net.now (vec_capacity w.targets)) }
-        ensures mine { IfOk result (λ w. (b : ℕ) → is_in w.mine b ≡ is_among banks.now b) }
-        ensures workers { IfOk result (λ w. w.workers ≡ workers) }
     {
         Ok(Workspace {
             creditors: creditors(alloc, net)?,
             marks: no_marks(alloc, net.banks() as usize)?,
             counted: 0,
             targets: Vec::with_capacity(alloc, longest_row(net))?,
-            mine: set_of(banks),
-            workers,
             raises: Vec::new(alloc),
         })
     }
@@ -68,22 +52,9 @@ impl Workspace {
         ensures as_many { length self.new.marks.items ≡ length self.old.marks.items }
         ensures creditors { self.new.creditors ≡ self.old.creditors }
         ensures targets { self.new.targets ≡ self.old.targets }
-        ensures mine { (self.new.mine ≡ self.old.mine) × (self.new.workers ≡ self.old.workers) }
     {
         self.counted = next_number(&mut self.marks, self.counted);
     }
-}
-
-// The set of these banks.
-fn set_of(banks: &[u32]) -> BankSet
-    requires { All (λ b. b < MAX_BANKS) banks.now }
-    ensures { (b : ℕ) → is_in result b ≡ is_among banks.now b }
-{
-    let mut set = BankSet::none();
-    for bank in banks {
-        set.add(BankId(*bank));
-    }
-    set
 }
 
 // The creditor of each debt, in file order.

@@ -17,10 +17,11 @@
 //! looks at all of them: so they are read in a row, and not each from a line of its own.
 //!
 //! `board.rt` makes a board and closes it, `seating.rt` hands seats out and takes them back, and
-//! `calls.rt` looks, raises, rings and takes. The program calls nothing of `plain.rt`. What each call changes of what a seat shows stands in
-//! `specs/Seating.antt`, `specs/Paying.antt` and `specs/Ringing.antt`. Beneath them lies the rule of
-//! a board (`rule.rt`), which holds between any two atomic steps: `specs/BoardRule.antt` for the
-//! payments and `specs/Bells.antt` for the bells. What a caller may rely on is in [`laws`].
+//! `calls.rt` looks, raises, rings and takes. What each call changes of what a seat shows stands in
+//! `specs/Seating.antt`, `specs/Paying.antt` and `specs/Ringing.antt`. The program calls nothing of
+//! `plain.rt`. Beneath all of them lies the rule of a board (`rule.rt`), which holds between any two
+//! atomic steps: `specs/BoardRule.antt` for the payments and `specs/Bells.antt` for the bells. What
+//! a caller may rely on is in [`laws`].
 //!
 //! Contracts and proofs call what they see by these words:
 //!
@@ -53,8 +54,7 @@ mod seating;
 mod view;
 
 /// The most seats that a master hands out: the greatest number of 32 bits. A run hands out one to
-/// each worker in each round, which is fewer; and the number that stands in the roll word fits
-/// there.
+/// each worker in each round, which is fewer.
 pub const MAX_SEATS: u64 = 4294967295;
 
 pub use board::Board;

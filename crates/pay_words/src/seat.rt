@@ -21,8 +21,8 @@ pub struct PaySeat {
     pub(crate) seat: Seat<(), View>,
     // What the worker's banks pay. The master has none.
     pub(crate) own: Paid,
-    // At the master, what the banks of each worker pay, but of those that were handed out, and the
-    // debtor of each debt.
+    // At the master, what the banks of each worker pay, except of those that were handed out, and
+    // the debtor of each debt.
     pub(crate) lists: Vec<Paid>,
     pub(crate) debtors: Vec<u32>,
     // The greatest stamp that it saw or gave.

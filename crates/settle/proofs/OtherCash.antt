@@ -34,7 +34,6 @@ serves_again net other workers i o network alike debts serves =
         creditors = rw debts office.creditors;
         marks = office.marks ∙ sym size;
         room = rw debts office.room;
-        mine = rw size office.mine;
       };
       worker = serves.worker;
     }

@@ -16,8 +16,6 @@ no_office = record {
   creditors = [];
   marks = 0;
   room = 0;
-  mine = [];
-  workers = 0;
 }
 
 abbrev pub office_at : List OfficeView → ℕ → OfficeView

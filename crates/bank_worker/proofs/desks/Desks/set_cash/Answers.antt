@@ -12,4 +12,4 @@ invariant_of-self c =
     let new = c.set_cash_of.new.desks in
     let made = c.set_cash_of.ensures ∙ ap (λ ds. map (with_cash_in net) ds) c.as_mut_slice.ensures.value in
     let size : old.len ≡ length new = omega (arith, ap length made, length-map old.items (with_cash_in net), old.ok.0) in
-    c.self.invariant ∙ sym (same_banks net old.items) ∙ ap banks_of (sym made ∙ sym (written_over old.len new old.items size))
+    (c.self.invariant.0 ∙ sym (same_banks net old.items) ∙ ap banks_of (sym made ∙ sym (written_over old.len new old.items size)), c.self.invariant.1)

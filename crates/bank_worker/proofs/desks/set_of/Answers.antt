@@ -1,7 +1,7 @@
 use Rattle.std.proofs.Common.{◌∙◌, sym, ap, get_or}
 use Rattle.std.specs.Prelude.{◌==◌, ◌||◌}
 use Rattle.std.proofs.lemmas.List.Folds.{list_any_more}
-use Rattle.bank_worker.proofs.workspace.set_of.Goals as goal
+use Rattle.bank_worker.proofs.desks.set_of.Goals as goal
 
 pub loop-bank-preserved : goal.loop-bank-preserved
 loop-bank-preserved c b =
