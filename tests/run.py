@@ -3,7 +3,8 @@
 `run.py` runs all modules test_*.py beside it, `run.py MODULE...` these alone. Those of the package, test_client_*,
 are run by a Python that has pandas, numpy and networkx where there is one; with `--without NAMES` as if the packages
 of these names, with commas between, were missing. Each test that was skipped has a line with its reason; the last
-line is `N passed, M failed`, with `, K skipped` where some were. The status is 0 where none failed.
+line is `N passed, M failed`, with `, K skipped` where some were. The status is 0 where none failed. A module that takes
+longer than an hour is ended with all that it has started, and has failed.
 
 With `--skips-fail FILE` a skip counts as a failure, but for those that the file names: a line has the name of a test,
 a class or a module, and then the reason. Each `--note TEXT` is a line before the last.
@@ -22,7 +23,10 @@ import sys
 import unittest
 from typing import Any, Dict, Iterable, List, Optional, Set, Tuple
 
+from ending import run_within
+
 HERE = pathlib.Path(__file__).resolve().parent
+SECONDS = 3600  # what a module may take; those that take long take minutes
 # Devices that all share, whose modes a test by root could change.
 DEVICES = ["/dev/null", "/dev/zero", "/dev/full"]
 COUNTS = re.compile(r"([0-9]+) passed, ([0-9]+) failed(?:, ([0-9]+) skipped)?")
@@ -123,22 +127,23 @@ def run_here(module: str, without: str) -> int:
     return 1 if result.counts["failed"] else 0
 
 
+def lines_of(output: bytes) -> List[str]:
+    """The lines of what a run has printed."""
+    return output.decode(errors="backslashreplace").splitlines()
+
+
 def run_beside(module: str, without: str) -> Tuple[List[str], Counts]:
-    """What a run of one module in another process prints, and its three counts. A run that broke off is a test that
-    failed."""
+    """What a run of one module in another process prints, and its three counts. A run that broke off, or was ended, is
+    a test that failed."""
     python = (
         sys.executable if without or not module.startswith("test_client_") else python_for("pandas, numpy, networkx")
     )
     run = [python, str(HERE / "run.py"), "--here", module, without]
-    done = subprocess.run(
-        run,
-        stdin=subprocess.DEVNULL,
-        stdout=subprocess.PIPE,
-        stderr=subprocess.STDOUT,
-        encoding="utf-8",
-        errors="backslashreplace",
-    )
-    lines = done.stdout.splitlines()
+    try:
+        done = run_within(SECONDS, run, stdin=subprocess.DEVNULL, stdout=subprocess.PIPE, stderr=subprocess.STDOUT)
+    except subprocess.TimeoutExpired as late:
+        return lines_of(late.output or b"") + [f"{module} was ended after {SECONDS} seconds"], (0, 1, 0)
+    lines = lines_of(done.stdout)
     counts = COUNTS.fullmatch(lines[-1]) if lines else None
     if not counts:
         return lines + [f"{module} broke off with status {done.returncode}"], (0, 1, 0)

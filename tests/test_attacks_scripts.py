@@ -8,7 +8,7 @@ import signal
 import stat
 import subprocess
 import unittest
-from typing import Any
+from typing import Any, Tuple
 
 import test_launcher
 from common import HUB, PROGRAM, ROOT, Case, Word, files_of
@@ -53,22 +53,41 @@ class Installing(Case):
             shutil.rmtree(self.prefix)
         self.assertEqual(modes[0], modes[1])
 
-    def test_an_interrupt_leaves_nothing_and_follows_no_link(self):
-        victim = self.file("victim", "kept\n")
+    def begun(self) -> "Tuple[subprocess.Popen[str], str]":
+        """An installation over an older program, as soon as it has a file, and what follows in that file's name."""
         (self.prefix / "bin").mkdir(parents=True)
         (self.prefix / "bin/clearing").write_text("old\n")
-        # The program to install is a pipe that is written late: by then links stand where the next files could go.
         running = self.start()
         self.until(lambda: list(self.prefix.rglob("*.new.*")))
-        for path in list(self.prefix.rglob("*.new.*")):
-            self.assertNotIn(str(running.pid), path.name)
+        os.killpg(running.pid, signal.SIGSTOP)
+        names = [path.name for path in self.prefix.rglob("*.new.*")]
+        for name in names:
+            self.assertNotIn(str(running.pid), name)
+        return running, ".new." + names[0].partition(".new.")[2]
+
+    def all_is_as_it_was(self, running: "subprocess.Popen[str]", told: str) -> None:
+        """The installation ends, tells why, and leaves the older program alone."""
+        os.killpg(running.pid, signal.SIGCONT)
+        _, said = running.communicate(timeout=60)
+        self.assertEqual(running.returncode, 1, said)
+        self.assertIn(told, said)
+        left = [path for path in self.prefix.rglob("*") if path.is_symlink() or not path.is_dir()]
+        self.assertEqual([str(path.relative_to(self.prefix)) for path in left], ["bin/clearing"])
+        self.assertEqual((self.prefix / "bin/clearing").read_text(), "old\n")
+
+    def test_an_interrupt_leaves_nothing(self):
+        running, _ = self.begun()
         os.killpg(running.pid, signal.SIGTERM)
-        running.communicate(timeout=60)
-        left = [str(path.relative_to(self.prefix)) for path in self.prefix.rglob("*") if not path.is_dir()]
-        if running.returncode:
-            self.assertEqual(left, ["bin/clearing"])
-            self.assertEqual((self.prefix / "bin/clearing").read_text(), "old\n")
-        self.assertEqual([name for name in left if ".new." in name or ".old." in name], [])
+        self.all_is_as_it_was(running, "it was interrupted; all is as it was")
+
+    def test_a_link_where_the_next_file_goes_is_not_followed(self):
+        """Its name can be foreseen once the first file is there."""
+        victim = self.file("victim", "kept\n")
+        running, end = self.begun()
+        next_one = self.prefix / "share/clearing" / f"VERSION{end}"
+        next_one.parent.mkdir(parents=True, exist_ok=True)
+        next_one.symlink_to(victim)
+        self.all_is_as_it_was(running, "share/clearing/VERSION cannot be written")
         self.assertEqual(victim.read_text(), "kept\n")
 
 

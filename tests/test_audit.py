@@ -263,7 +263,7 @@ class Audit(Case):
         raises = raises_of(net)
         single = 0
 
-        def counted(division: Any, turns: Any = audit.Division.one_by_one) -> None:
+        def counted(division: Any, turns: Any = audit.Division.one_by_one) -> Iterator[Any]:
             nonlocal single
             for turn in turns(division):
                 single += 1

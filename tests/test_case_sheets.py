@@ -9,7 +9,7 @@ import unittest.mock
 from typing import Any
 
 import sheets
-import test_workbook_attacks as workbooks
+import test_attacks_workbooks as workbooks
 from common import ROOT, Case, Word, needs_packages
 from evidences import evidence
 

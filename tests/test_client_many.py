@@ -3,6 +3,7 @@ others."""
 import concurrent.futures
 import os
 import pathlib
+import shlex
 import subprocess
 import sys
 import time
@@ -83,7 +84,7 @@ class SideBySide(Case):
         # Each run waits until the other has begun, but not for ever.
         self.program(
             f'touch {self.folder}/$$; n=0; while [ $(ls {self.folder} | grep -c "^[0-9]*$") -lt 2 ]; do sleep 0.02; '
-            f'n=$((n + 1)); [ $n -lt 500 ] || exit 77; done; exec {os.environ["CLEARING"]} "$@"'
+            f'n=$((n + 1)); [ $n -lt 500 ] || exit 77; done; exec {shlex.quote(os.environ["CLEARING"])} "$@"'
         )
         self.assertEqual(len(list(cc.map_stress([network_of(CHAIN), network_of(HUB)], Scenarios.cuts([1]), jobs=2))), 2)
 

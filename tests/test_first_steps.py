@@ -2,6 +2,7 @@
 small repository with the packages, whose toolchain notes its calls."""
 import os
 import pty
+import shlex
 import shutil
 import subprocess
 import sys
@@ -18,7 +19,7 @@ WAYS = (
     "or build it in the repository: ./clearing, or this command with --build",
 )
 # It links the tested program.
-LINKS = f"exec '{os.path.abspath(PROGRAM)}' \"$@\""
+LINKS = f'exec {shlex.quote(PROGRAM)} "$@"'
 
 
 class FirstSteps(test_launcher.Launcher):

@@ -76,7 +76,8 @@ class Machine(Case):
         (self.root / "tests/packages.txt").write_text("# wanted\nmoon   # the moon\nsea    # and the sea\n\nstar\n")
 
     def ran(self, *words: str, **more: Any) -> Tuple[int, List[str]]:
-        """The status and the lines of a command of the repository, what was called, and the seconds it took."""
+        """The status and the lines of a command of the repository. What was called, and the seconds it took, stand in
+        `called` and `took`."""
         self.calls.write_text("")
         environment = {
             "PATH": f"{self.folder}/commands:{os.environ['PATH']}",
@@ -173,6 +174,7 @@ class Gate(Machine):
             (ROOT / "tools/dev/gate.py", "tools/dev"),
             (ROOT / "tools/dev/crates.py", "tools/dev"),
             (HERE / "run.py", beside),
+            (HERE / "ending.py", beside),
         ):
             shutil.copy(source, self.root / target)
         (beside / "test_some.py").write_text(TESTS)

@@ -1,7 +1,6 @@
 """The pictures: what they show is what the program says, to be read in grey print and by the colour-blind as well."""
 import pathlib
 import re
-import shutil
 import subprocess
 import sys
 import xml.etree.ElementTree as tree
@@ -439,4 +438,3 @@ class Script(Case):
             )
         self.assertTrue((self.folder / "a folder/core-shortfalls.svg").exists())
         self.assertTrue((self.folder / "a folder/twelve-banks-stress.svg").exists())
-        self.assertFalse(shutil.which("dot", path="/nowhere"))
