@@ -1,6 +1,5 @@
 """What the tests share: the program (from the environment variable CLEARING, else the repository's `./clearing`), the
 tools, the two packages, the networks of `examples/`, and a case with a folder of its own."""
-import functools
 import importlib.util
 import os
 import pathlib
@@ -13,6 +12,7 @@ import unittest
 from typing import Any, Callable, Container, List, Optional, TypeVar, Union
 
 from ending import run_within
+from pythons import python_with
 
 ROOT = pathlib.Path(__file__).resolve().parents[1]
 PACKAGES = ROOT / "python" / "src"
@@ -92,17 +92,6 @@ def loaded(path: pathlib.Path) -> Any:
     module = importlib.util.module_from_spec(spec)
     spec.loader.exec_module(module)
     return module
-
-
-@functools.cache
-def python_with(*modules: str) -> Optional[str]:
-    """A Python that can import some modules: the one that runs the tests, else the system's, else none."""
-    for python in (sys.executable, "/usr/bin/python3"):
-        # A folder that a package has left behind is no module.
-        run = [python, "-c", "".join(f"import {module}; assert {module}.__file__\n" for module in modules)]
-        if shutil.which(python) and subprocess.run(run, capture_output=True).returncode == 0:
-            return python
-    return None
 
 
 def needs(*commands: str) -> Callable[[Tested], Tested]:

@@ -12,7 +12,6 @@ a class or a module, and then the reason. Each `--note TEXT` is a line before th
 import argparse
 import concurrent.futures
 import contextlib
-import functools
 import os
 import pathlib
 import re
@@ -24,6 +23,7 @@ import unittest
 from typing import Any, Dict, Iterable, List, Optional, Set, Tuple
 
 from ending import run_within
+from pythons import python_with
 
 HERE = pathlib.Path(__file__).resolve().parent
 SECONDS = 3600  # what a module may take; those that take long take minutes
@@ -101,16 +101,6 @@ def line_of(passed: int, failed: int, skipped: int) -> str:
     return f"{passed} passed, {failed} failed" + (f", {skipped} skipped" if skipped else "")
 
 
-@functools.cache
-def python_for(names: str) -> str:
-    """A Python that has these packages: the one that runs this, or the system's; else the one that runs this."""
-    for python in (sys.executable, "/usr/bin/python3"):
-        with contextlib.suppress(OSError):
-            if subprocess.run([python, "-c", f"import {names}"], capture_output=True).returncode == 0:
-                return python
-    return sys.executable
-
-
 def run_here(module: str, without: str) -> int:
     """Runs one module in this process. Its last line has the counts."""
     hidden: Dict[str, Any] = {name: None for name in without.split(",") if name}
@@ -135,9 +125,8 @@ def lines_of(output: bytes) -> List[str]:
 def run_beside(module: str, without: str) -> Tuple[List[str], Counts]:
     """What a run of one module in another process prints, and its three counts. A run that broke off, or was ended, is
     a test that failed."""
-    python = (
-        sys.executable if without or not module.startswith("test_client_") else python_for("pandas, numpy, networkx")
-    )
+    has_packages = not without and module.startswith("test_client_")
+    python = has_packages and python_with("pandas", "numpy", "networkx") or sys.executable
     run = [python, str(HERE / "run.py"), "--here", module, without]
     try:
         done = run_within(SECONDS, run, stdin=subprocess.DEVNULL, stdout=subprocess.PIPE, stderr=subprocess.STDOUT)

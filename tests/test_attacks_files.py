@@ -18,9 +18,9 @@ from typing import Any, Iterator, List
 
 from common import CHAIN, HUB, PROGRAM, ROOT, Case, Word, files_of, tool
 
-from clearing_tools import files  # noqa: E402
-from clearing_tools.evidence import shock  # noqa: E402
-from clearing_tools.runner import ToolError  # noqa: E402
+from clearing_tools import files
+from clearing_tools.evidence import shock
+from clearing_tools.runner import ToolError
 
 ANOTHER = 54321
 FILES = files_of(HUB)
@@ -253,9 +253,9 @@ class Planted(Case):
         # The program plants what comes next, where its own output goes, and says which links it has planted.
         planted = self.folder / "planted"
         self.program(
-            f'cd "{self.folder}/results"; for part in a.part+*; do case $part in *.err) continue ;; esac; for link in'
-            f' "$part.job" "$part.failed" a.out; do ln -s "{victim}" "$link" && echo "${{link##*.}}" >>"{planted}"; done;'
-            " done; exit ${STATUS:-0}\n"
+            f'cd "{self.folder}/results"\nfor part in a.part+*; do case $part in *.err) continue ;; esac\n'
+            'for link in "$part.job" "$part.failed" a.out; do\n'
+            f'ln -s "{victim}" "$link" && echo "${{link##*.}}" >>"{planted}"; done; done; exit ${{STATUS:-0}}\n'
         )
         for status in ("0", "6"):
             shutil.rmtree(self.folder / "results", ignore_errors=True)

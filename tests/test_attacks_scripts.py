@@ -10,13 +10,15 @@ import subprocess
 import unittest
 from typing import Any, Tuple
 
-import test_launcher
 from common import HUB, PROGRAM, ROOT, Case, Word, files_of
+from launcher import TOOLCHAIN, LauncherCase
 
 FILES = files_of(HUB)
 
 
-class Installing(Case):
+class InstallerCase(Case):
+    """A test with a program to install, and a prefix."""
+
     def setUp(self):
         super().setUp()
         self.script = self.executable("program", 'echo "$*"\n')
@@ -36,6 +38,8 @@ class Installing(Case):
             **more,
         )
 
+
+class Installing(InstallerCase):
     def test_what_is_installed_is_for_all_and_nobody_else_writes_it(self):
         modes = []
         for mask in (0o000, 0o077):
@@ -151,18 +155,13 @@ class Reporting(Case):
         self.assertFalse((self.folder / "page.html").exists())
 
 
-class Launching(unittest.TestCase):
+class Launching(LauncherCase):
     def test_the_toolchain_imports_nothing_of_the_working_folder(self):
-        launcher = test_launcher.Launcher("test_it_is_built_once")
-        launcher.setUp()
-        self.addCleanup(launcher.doCleanups)
-        launcher.rt.write_text(
-            '#!/bin/sh\necho "path=${PYTHONPATH-none}" >>"$CALLS"\n' + test_launcher.TOOLCHAIN.split("\n", 1)[1]
-        )
-        done = launcher.run_at(launcher.root, "a", PYTHONPATH=":")
+        self.rt.write_text('#!/bin/sh\necho "path=${PYTHONPATH-none}" >>"$CALLS"\n' + TOOLCHAIN.split("\n", 1)[1])
+        done = self.run_at(self.root, "a", PYTHONPATH=":")
         self.assertEqual((done.returncode, done.stdout), (0, "a here\n"))
         self.assertEqual(
-            {line for line in launcher.calls.read_text().split("\n") if line.startswith("path=")}, {"path=none"}
+            {line for line in self.calls.read_text().split("\n") if line.startswith("path=")}, {"path=none"}
         )
 
 
@@ -255,9 +254,7 @@ class Ended(Case):
         self.assertEqual((done.returncode, (self.folder / "f/a.out").read_text()), (0, "gen 1\n"), done.stderr)
 
 
-class Prefixes(Installing):
-    locals().update({name: None for name in vars(Installing) if name.startswith("test_")})
-
+class Prefixes(InstallerCase):
     def run_it(self, prefix: Word) -> "subprocess.CompletedProcess[str]":
         return subprocess.run(
             [str(ROOT / "tools/install.sh"), str(prefix)],

@@ -12,7 +12,8 @@ from typing import Any, Iterator, List, Tuple
 from unittest import mock
 
 from clients import network_of
-from common import CHAIN, HUB, ROOT, TWELVE, Case, needs_modules, python_with
+from common import CHAIN, HUB, ROOT, TWELVE, Case, needs_modules
+from pythons import python_with
 
 import clearing_client as cc
 from clearing_client import Network, Scenario, Scenarios, many, network, texts

@@ -10,8 +10,8 @@ import time
 import unittest
 from typing import Any
 
-import test_launcher
 from common import CHAIN, PACKAGES, PROGRAM, ROOT, Word, files_of, run_of
+from launcher import LauncherCase
 
 FILES = files_of(CHAIN)
 WAYS = (
@@ -22,10 +22,7 @@ WAYS = (
 LINKS = f'exec {shlex.quote(PROGRAM)} "$@"'
 
 
-class FirstSteps(test_launcher.Launcher):
-    # The tests of the launcher itself run once.
-    locals().update({name: None for name in vars(test_launcher.Launcher) if name.startswith("test_")})
-
+class FirstSteps(LauncherCase):
     def setUp(self):
         super().setUp()
         self.rt.write_text(self.rt.read_text().replace("echo 'echo \"$*\" here'", 'echo "$LINKS"'))

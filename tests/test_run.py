@@ -8,6 +8,7 @@ from typing import List, Tuple
 
 import common
 from common import ROOT, Case, Word
+from pythons import python_with
 
 GOOD = "import unittest\n\nclass Good(unittest.TestCase):\n    def test_good(self):\n        pass\n"
 SKIPPED = GOOD + '\n    @unittest.skip("no moon")\n    def test_moon(self):\n        pass\n'
@@ -62,7 +63,8 @@ class Run(Case):
             self.assertIn(old, text)
             text = text.replace(old, new)
         self.file("run.py", text)
-        self.file("ending.py", (ROOT / "tests/ending.py").read_text())
+        for name in ("ending.py", "pythons.py"):
+            self.file(name, (ROOT / "tests" / name).read_text())
         for name, text in modules.items():
             self.file(f"test_{name}.py", text)
         environment = {**os.environ, "PYTHONDONTWRITEBYTECODE": "1"}
@@ -155,7 +157,10 @@ class Shared(Case):
     def test_a_program_that_is_named_from_here_is_found_from_anywhere(self):
         (self.folder / "programs").mkdir()
         program = self.executable("programs/clearing", "exit 7\n")
-        code = "import os, sys, common; os.chdir('/'); print(os.environ['CLEARING']); sys.exit(common.clearing().returncode)"
+        code = (
+            "import os, sys, common; os.chdir('/'); print(os.environ['CLEARING']); "
+            "sys.exit(common.clearing().returncode)"
+        )
         path = os.pathsep.join(["programs", os.environ["PATH"]])
         for named in ("programs/clearing", "./programs/../programs/clearing", "clearing", str(program)):
             done = subprocess.run(
@@ -166,6 +171,13 @@ class Shared(Case):
                 encoding="utf-8",
             )
             self.assertEqual((done.returncode, done.stdout), (7, f"{program}\n"), (named, done.stderr))
+
+    def test_a_folder_that_a_package_has_left_behind_is_no_package(self):
+        (self.folder / "left_behind").mkdir()
+        self.file("still_there.py", "")
+        with unittest.mock.patch.dict(os.environ, PYTHONPATH=str(self.folder)):
+            self.assertIsNone(python_with("left_behind"))
+            self.assertEqual(python_with("still_there"), sys.executable)
 
     def test_what_hangs_is_ended_with_all_that_it_has_started(self):
         """Also what stays where the one that has started it is gone, and holds its output open."""
