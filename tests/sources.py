@@ -8,6 +8,8 @@ SHARED = [path for path in TESTS if path.parent == ROOT / "tests" and not path.n
 SCRIPTS = sorted(
     [ROOT / "python/build.py", *(ROOT / "bench").rglob("*.py"), *(ROOT / "tools/dev").glob("*.py"), *SHARED]
 )
+# What of the scripts that try the built program is typed as well.
+SYSTEM = [ROOT / "tests/system" / name for name in ("allocations.py", "quick.py", "running.py")]
 # Scripts of pages and their tests, and the package for R.
 OTHERS = sorted([*(ROOT / "python/src").rglob("*.mjs"), *(ROOT / "tests").rglob("*.mjs"), *(ROOT / "r").rglob("*.R")])
 # The folders of the scripts of both pages, and these.

@@ -11,7 +11,7 @@ import unittest
 from typing import Iterable, Iterator, List, Set, Tuple
 
 from common import ROOT, Case
-from sources import SCRIPTS, SHARED, SOURCES
+from sources import SCRIPTS, SHARED, SOURCES, SYSTEM
 
 MYPY = shutil.which("mypy")
 
@@ -19,7 +19,8 @@ MYPY = shutil.which("mypy")
 def checked_at_once(root: pathlib.Path) -> Tuple[List[str], List[str]]:
     """What is checked at once, seen from python/: two of the scripts are called build."""
     shared = [f"../tests/{path.name}" for path in sorted((root / "tests").glob("*.py")) if path.name[:5] != "test_"]
-    return ["src", "build.py", "../bench", *shared], ["../tools/dev"]
+    system = [root / path.relative_to(ROOT) for path in SYSTEM]
+    return ["src", "build.py", "../bench", *shared], ["../tools/dev", *(str(path) for path in system if path.exists())]
 
 
 def idle_in(paths: Iterable[pathlib.Path], words: Set[str]) -> Iterator[str]:

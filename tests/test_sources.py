@@ -10,7 +10,7 @@ import unittest
 from typing import Iterable, Iterator, List, Tuple
 
 from common import ROOT
-from sources import OTHERS, SCRIPTS, SOURCES, TESTS
+from sources import OTHERS, SCRIPTS, SOURCES, SYSTEM, TESTS
 
 FLAKE8 = shutil.which("flake8")
 
@@ -38,12 +38,12 @@ def untyped_in(text: str) -> Iterator[ast.FunctionDef]:
 
 class Sources(unittest.TestCase):
     def test_a_function_has_some_40_lines(self):
-        lines = {name: node.end_lineno - node.lineno + 1 for name, node in functions_in([*SOURCES, *SCRIPTS])}
+        lines = {name: node.end_lineno - node.lineno + 1 for name, node in functions_in([*SOURCES, *SCRIPTS, *SYSTEM])}
         self.assertEqual({name: count for name, count in lines.items() if count > 44}, {})
         self.assertGreater(max(lines.values()), 30)
 
     def test_a_function_of_a_script_has_at_most_six_parameters_and_says_what_it_does(self):
-        found = dict(functions_in(SCRIPTS))
+        found = dict(functions_in([*SCRIPTS, *SYSTEM]))
         self.assertGreater(len(found), 250)
         for name, node in found.items():
             given = [node.args.vararg, node.args.kwarg, *node.args.posonlyargs, *node.args.args, *node.args.kwonlyargs]
@@ -60,6 +60,13 @@ class Sources(unittest.TestCase):
         helpers = "def one(a: int, *b, c: str) -> int:\n    pass\n\n\ndef two(d: int):\n    pass\n"
         tests = "class A:\n    def test_it(self):\n        pass\n\n    def ok(self, f: int) -> None:\n        pass\n"
         self.assertEqual([node.name for node in untyped_in(helpers + tests)], ["one", "two"])
+
+    def test_no_module_of_tests_imports_another(self):
+        """Whose tests it would run again, or have to erase: what several share stands in a module of its own."""
+        imports = re.compile(r"^ *(?:import|from) test_\w+", re.MULTILINE)
+        found = {path.name: imports.findall(path.read_text(encoding="utf-8")) for path in TESTS}
+        self.assertEqual({name: lines for name, lines in found.items() if lines}, {})
+        self.assertEqual(len(imports.findall("import test_one\n    from test_two import a\nimport tests\n")), 2)
 
     def test_lines_have_the_one_length_of_the_settings(self):
         settings = configparser.ConfigParser()
