@@ -1,6 +1,7 @@
 """What the tests of the tools that ask what would break a network share: networks, the commands, and how a tool runs on
 a program that does something else."""
 import os
+import shlex
 import subprocess
 from typing import Any, Iterator, List, Tuple
 
@@ -54,7 +55,7 @@ class AnalysisCase(Case):
     def with_program(self, script: str, name: str, *words: Word, **more: Any) -> "subprocess.Popen[bytes]":
         """A run of a tool that goes on, where what a script of the shell does comes before what the program does; with
         what subprocess.Popen takes besides."""
-        program = self.executable("program", f"{script}\nexec '{PROGRAM}' \"$@\"\n")
+        program = self.executable("program", f'{script}\nexec {shlex.quote(PROGRAM)} "$@"\n')
         running = subprocess.Popen(
             [*run_of(name), *map(str, words)],
             env={**os.environ, "CLEARING": str(program)},

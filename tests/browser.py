@@ -9,7 +9,8 @@ import sys
 import unittest
 from typing import Any, Dict, List, Tuple
 
-from common import Case, python_with
+from common import Case
+from pythons import python_with
 
 D3 = "/usr/share/nodejs/d3/dist/d3.min.js"
 

@@ -1,6 +1,5 @@
 """What the tests share: the program (from the environment variable CLEARING, else the repository's `./clearing`), the
 tools, the two packages, the networks of `examples/`, and a case with a folder of its own."""
-import functools
 import importlib.util
 import os
 import pathlib
@@ -12,17 +11,23 @@ import time
 import unittest
 from typing import Any, Callable, Container, List, Optional, TypeVar, Union
 
+from ending import run_within
+from pythons import python_with
+
 ROOT = pathlib.Path(__file__).resolve().parents[1]
 PACKAGES = ROOT / "python" / "src"
 
 
 def prepared() -> str:
     """The program that the tests run. Importing this module readies the process for it: each tool that a test starts
-    gets the same program by CLEARING in its environment, and `import clearing_client` and `import clearing_tools` find
-    the sources of this repository before a package that is installed. A first look ends the process here, since it is
-    not proved, and tests that pass by it would say nothing of the proved program."""
-    program = os.environ.get("CLEARING") or str(ROOT / "clearing")
-    if pathlib.Path(shutil.which(program) or program).resolve().name == "first-look":
+    gets the same program by CLEARING in its environment, with its whole path, and `import clearing_client` and `import
+    clearing_tools` find the sources of this repository before a package that is installed. A first look ends the
+    process here, since it is not proved, and tests that pass by it would say nothing of the proved program."""
+    named = os.environ.get("CLEARING") or str(ROOT / "clearing")
+    program = shutil.which(named) or named
+    # A test may run it in another folder.
+    program = os.path.abspath(program) if os.sep in program else program
+    if pathlib.Path(program).resolve().name == "first-look":
         sys.exit(f"{program} is a first look, which is not proved; CLEARING is to name the proved program")
     os.environ["CLEARING"] = program
     sys.path.insert(0, str(PACKAGES))
@@ -36,11 +41,20 @@ CHAIN, HUB, TWELVE = (ROOT / "examples" / name for name in ("chain", "hub", "twe
 Tested = TypeVar("Tested", bound=Callable[..., Any])
 Word = Union[str, int, float, "os.PathLike[str]"]
 """A word of a command line, of which it has the text."""
+LONGEST = 600.0
+"""Seconds after which a run of the program or of a tool hangs, and is ended."""
 
 
 def clearing(*words: Word) -> "subprocess.CompletedProcess[bytes]":
     """A run of the program, with its status, output and messages as bytes."""
-    return subprocess.run([PROGRAM, *map(str, words)], stdin=subprocess.DEVNULL, capture_output=True)
+    return run_within(
+        LONGEST,
+        [PROGRAM, *map(str, words)],
+        stdin=subprocess.DEVNULL,
+        stdout=subprocess.PIPE,
+        stderr=subprocess.PIPE,
+        start_new_session=True,
+    )
 
 
 def file_of(name: str) -> pathlib.Path:
@@ -59,12 +73,15 @@ def tool(
     name: str, *words: Word, python: Optional[str] = None, cwd: Optional[pathlib.Path] = None
 ) -> "subprocess.CompletedProcess[str]":
     """A run of one of the tools, with its status, output and messages as text; by another Python where one is named."""
-    return subprocess.run(
+    return run_within(
+        LONGEST,
         [*run_of(name, python), *map(str, words)],
         cwd=cwd,
         stdin=subprocess.DEVNULL,
-        capture_output=True,
+        stdout=subprocess.PIPE,
+        stderr=subprocess.PIPE,
         encoding="utf-8",
+        start_new_session=True,
     )
 
 
@@ -75,17 +92,6 @@ def loaded(path: pathlib.Path) -> Any:
     module = importlib.util.module_from_spec(spec)
     spec.loader.exec_module(module)
     return module
-
-
-@functools.cache
-def python_with(*modules: str) -> Optional[str]:
-    """A Python that can import some modules: the one that runs the tests, else the system's, else none."""
-    for python in (sys.executable, "/usr/bin/python3"):
-        # A folder that a package has left behind is no module.
-        run = [python, "-c", "".join(f"import {module}; assert {module}.__file__\n" for module in modules)]
-        if shutil.which(python) and subprocess.run(run, capture_output=True).returncode == 0:
-            return python
-    return None
 
 
 def needs(*commands: str) -> Callable[[Tested], Tested]:

@@ -16,7 +16,8 @@ import time
 import unittest
 from typing import Any, Callable, Dict, Iterable, List, Optional, Tuple
 
-from common import PROGRAM, ROOT, TWELVE, Case, Word, clearing, files_of, python_with
+from common import PROGRAM, ROOT, TWELVE, Case, Word, clearing, files_of
+from pythons import python_with
 
 PYTHON = python_with("bottle")
 REASON = "" if PYTHON else "no Python here has bottle (Debian's package python3-bottle)"

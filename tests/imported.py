@@ -3,7 +3,8 @@ debts, and one with totals."""
 import subprocess
 from typing import Dict, List, Tuple
 
-from common import Case, Word, needs_modules, python_with, tool
+from common import Case, Word, needs_modules, tool
+from pythons import python_with
 
 TABLE = "bank,cash,outside,rule\nA,3,0,order\nB,4,1,equal\nC,5,0,webster\n"
 """The table of banks beside a list of debts."""

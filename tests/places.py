@@ -11,7 +11,8 @@ import sys
 import traceback
 from typing import IO, Any, Callable, Dict, Iterator, List, NamedTuple, Optional, Sequence, Tuple, Union
 
-from common import PROGRAM, ROOT, Case, Word, clearing, file_of, python_with, run_of
+from common import PROGRAM, ROOT, Case, Word, clearing, file_of, run_of
+from pythons import python_with
 
 RULES = ["order", "equal", "losses", "jefferson", "webster", "adams"]
 Done = Any

@@ -11,8 +11,9 @@ from decimal import Decimal
 from typing import Dict, Iterable, Iterator, List, Mapping, Optional, Sequence, Tuple
 
 from browser import Browsing
-from common import TWELVE, Case, Word, clearing, files_of, python_with, tool
+from common import TWELVE, Case, Word, clearing, files_of, tool
 from odd_names import MARKUP, ODD_NAMES, all_names, untrimmed
+from pythons import python_with
 
 __all__ = [
     "PYTHON", "TWELVE", "InTheBrowser", "Reader", "Report", "amount", "files_of", "largest",

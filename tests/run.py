@@ -3,7 +3,8 @@
 `run.py` runs all modules test_*.py beside it, `run.py MODULE...` these alone. Those of the package, test_client_*,
 are run by a Python that has pandas, numpy and networkx where there is one; with `--without NAMES` as if the packages
 of these names, with commas between, were missing. Each test that was skipped has a line with its reason; the last
-line is `N passed, M failed`, with `, K skipped` where some were. The status is 0 where none failed.
+line is `N passed, M failed`, with `, K skipped` where some were. The status is 0 where none failed. A module that takes
+longer than an hour is ended with all that it has started, and has failed.
 
 With `--skips-fail FILE` a skip counts as a failure, but for those that the file names: a line has the name of a test,
 a class or a module, and then the reason. Each `--note TEXT` is a line before the last.
@@ -11,7 +12,6 @@ a class or a module, and then the reason. Each `--note TEXT` is a line before th
 import argparse
 import concurrent.futures
 import contextlib
-import functools
 import os
 import pathlib
 import re
@@ -22,7 +22,11 @@ import sys
 import unittest
 from typing import Any, Dict, Iterable, List, Optional, Set, Tuple
 
+from ending import run_within
+from pythons import python_with
+
 HERE = pathlib.Path(__file__).resolve().parent
+SECONDS = 3600  # what a module may take; those that take long take minutes
 # Devices that all share, whose modes a test by root could change.
 DEVICES = ["/dev/null", "/dev/zero", "/dev/full"]
 COUNTS = re.compile(r"([0-9]+) passed, ([0-9]+) failed(?:, ([0-9]+) skipped)?")
@@ -97,16 +101,6 @@ def line_of(passed: int, failed: int, skipped: int) -> str:
     return f"{passed} passed, {failed} failed" + (f", {skipped} skipped" if skipped else "")
 
 
-@functools.cache
-def python_for(names: str) -> str:
-    """A Python that has these packages: the one that runs this, or the system's; else the one that runs this."""
-    for python in (sys.executable, "/usr/bin/python3"):
-        with contextlib.suppress(OSError):
-            if subprocess.run([python, "-c", f"import {names}"], capture_output=True).returncode == 0:
-                return python
-    return sys.executable
-
-
 def run_here(module: str, without: str) -> int:
     """Runs one module in this process. Its last line has the counts."""
     hidden: Dict[str, Any] = {name: None for name in without.split(",") if name}
@@ -123,22 +117,22 @@ def run_here(module: str, without: str) -> int:
     return 1 if result.counts["failed"] else 0
 
 
+def lines_of(output: bytes) -> List[str]:
+    """The lines of what a run has printed."""
+    return output.decode(errors="backslashreplace").splitlines()
+
+
 def run_beside(module: str, without: str) -> Tuple[List[str], Counts]:
-    """What a run of one module in another process prints, and its three counts. A run that broke off is a test that
-    failed."""
-    python = (
-        sys.executable if without or not module.startswith("test_client_") else python_for("pandas, numpy, networkx")
-    )
+    """What a run of one module in another process prints, and its three counts. A run that broke off, or was ended, is
+    a test that failed."""
+    has_packages = not without and module.startswith("test_client_")
+    python = has_packages and python_with("pandas", "numpy", "networkx") or sys.executable
     run = [python, str(HERE / "run.py"), "--here", module, without]
-    done = subprocess.run(
-        run,
-        stdin=subprocess.DEVNULL,
-        stdout=subprocess.PIPE,
-        stderr=subprocess.STDOUT,
-        encoding="utf-8",
-        errors="backslashreplace",
-    )
-    lines = done.stdout.splitlines()
+    try:
+        done = run_within(SECONDS, run, stdin=subprocess.DEVNULL, stdout=subprocess.PIPE, stderr=subprocess.STDOUT)
+    except subprocess.TimeoutExpired as late:
+        return lines_of(late.output or b"") + [f"{module} was ended after {SECONDS} seconds"], (0, 1, 0)
+    lines = lines_of(done.stdout)
     counts = COUNTS.fullmatch(lines[-1]) if lines else None
     if not counts:
         return lines + [f"{module} broke off with status {done.returncode}"], (0, 1, 0)

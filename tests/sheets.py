@@ -1,4 +1,4 @@
-"""Six sets of sheets, as spreadsheets and databases write them: for each the command that makes a case of it, and the
+"""Seven sets of sheets, as spreadsheets and databases write them: for each the command that makes a case of it, and the
 full name of a bank that a report must have. `tests/test_case_sheets.py` takes them small, and `bench/from_sheets.py`
 times them large."""
 import csv

@@ -11,20 +11,17 @@ import types
 import unittest
 from typing import Any, List, Tuple
 
-from common import PACKAGES, PROGRAM, ROOT, needs
+from common import PACKAGES, PROGRAM, needs
+from compared import model
 from desk import account_of
 
-sys.path.insert(0, str(PACKAGES))
-sys.path.append(str(ROOT / "tests/system"))
+import networks
 
-import model  # noqa: E402
-import networks  # noqa: E402
-
-from clearing_client.case import Case as Folder  # noqa: E402
-from clearing_tools import runner  # noqa: E402
-from clearing_tools.desk import account as accounts  # noqa: E402
-from clearing_tools.desk import state as states  # noqa: E402
-from clearing_tools.desk.runs import Desk, Runs, base_of  # noqa: E402
+from clearing_client.case import Case as Folder
+from clearing_tools import runner
+from clearing_tools.desk import account as accounts
+from clearing_tools.desk import state as states
+from clearing_tools.desk.runs import Desk, Runs, base_of
 
 NETWORKS = 200
 # The desk's modules, and those that it has from the report: they are served as if in one folder.
@@ -129,6 +126,9 @@ class Accounts(unittest.TestCase):
                 self.assertEqual(asked.faults(bank, account), [], (number, asked.net.banks[bank].name))
                 health = model.cost_standing(asked.left, asked.keep, asked.paid, bank)[1]
                 self.assertEqual(account.left < 0, health != "sound", (number, asked.net.banks[bank].name))
+                said = asked.found.banks[bank]
+                left = said.equity - (said.owed - said.paid) - (said.outside - said.outside_paid)
+                self.assertEqual((account.left, health != "sound"), (left, said.state != "sound"), "by the program")
                 units = [line.claim - line.paid for line in account.unpaid]
                 self.assertEqual(units, sorted(units, reverse=True))
                 lacking, with_lines = lacking + (account.left < 0), with_lines + (len(units) > 1)

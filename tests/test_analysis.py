@@ -2,20 +2,18 @@
 import functools
 import random
 import statistics
-import sys
 import unittest
 from typing import Any, Dict, Iterator, List, Tuple
 
 from analyses import AnalysisCase
 from common import ROOT, files_of, records
+from compared import model
 
-sys.path.insert(0, str(ROOT / "tests/system"))
-import model  # noqa: E402
-import quick  # noqa: E402
+import quick
 
-from clearing_client.records import Debt, Harm  # noqa: E402
-from clearing_tools.analysis import breaking, impact, losses, queries  # noqa: E402
-from clearing_tools.evidence import audit  # noqa: E402
+from clearing_client.records import Debt, Harm
+from clearing_tools.analysis import breaking, impact, losses, queries
+from clearing_tools.evidence import audit
 
 # The same networks are cleared hundreds of times: it pays to put more units into their order once.
 quick.SORTED = 200_000

@@ -1,6 +1,7 @@
 """How the tools that ask what would break a network end: at failures, at answers that are none, and at interrupts."""
 import os
 import pty
+import shlex
 import signal
 import subprocess
 import sys
@@ -17,7 +18,7 @@ from clearing_tools import runner
 
 # All banks are sound in the last scenario of a file, and in no other.
 LYING = """if [ "$1" = stress ]; then
-    "%s" "$@" | awk -v last="$(grep -c '^..scenario..$' "$5")" '/^scenario,/ { at++ }
+    %s "$@" | awk -v last="$(grep -c '^..scenario..$' "$5")" '/^scenario,/ { at++ }
         at == last { sub(/,(contagion|fundamental)$/, ",sound") } { print }'
     exit
 fi"""
@@ -37,13 +38,14 @@ class Ends(AnalysisCase):
     def test_answers_that_are_none_are_told(self):
         words = self.short()
         # A program that says that all banks are sound in the last scenario of a file.
-        running = self.with_program(LYING % PROGRAM, "clearing-breaking", *words, "--loss", "A")
+        running = self.with_program(LYING % shlex.quote(PROGRAM), "clearing-breaking", *words, "--loss", "A")
         output, messages = running.communicate(timeout=60)
         self.assertEqual((running.returncode, output), (1, b""), messages)
         self.assertIn("milder_shock_hurts_nobody", messages.decode())
         # One that answers another task, and one that leaves a scenario out.
-        script = f'case $1 in breaking|impact|rescues|outcomes) exec "{PROGRAM}" check "$2" "$3";; esac'
-        left_out = f'if [ "$1" = outcomes ]; then "{PROGRAM}" "$@" | sed 2d; exit; fi'
+        program = shlex.quote(PROGRAM)
+        script = f'case $1 in breaking|impact|rescues|outcomes) exec {program} check "$2" "$3";; esac'
+        left_out = f'if [ "$1" = outcomes ]; then {program} "$@" | sed 2d; exit; fi'
         for script, command in [*((script, command) for command in self.commands()), (left_out, self.commands()[-1])]:
             running = self.with_program(script, *command, *words)
             output, messages = running.communicate(timeout=60)

@@ -17,8 +17,8 @@ from typing import Any, Tuple
 from common import PACKAGES, ROOT, Word
 from evidences import EvidenceCase, evidence
 
-from clearing_tools.evidence import audit, checking, layout, plain_files, source  # noqa: E402
-from clearing_tools.runner import ToolError  # noqa: E402
+from clearing_tools.evidence import audit, checking, layout, plain_files, source
+from clearing_tools.runner import ToolError
 
 SHEET = "lender,borrower,amount\nB,A,10\nA,B,4\n"
 CONFINED = ROOT / "python/src/clearing_tools/evidence/confined.py"

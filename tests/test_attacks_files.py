@@ -4,6 +4,7 @@ import contextlib
 import ctypes
 import os
 import pathlib
+import shlex
 import shutil
 import signal
 import stat
@@ -17,9 +18,9 @@ from typing import Any, Iterator, List
 
 from common import CHAIN, HUB, PROGRAM, ROOT, Case, Word, files_of, tool
 
-from clearing_tools import files  # noqa: E402
-from clearing_tools.evidence import shock  # noqa: E402
-from clearing_tools.runner import ToolError  # noqa: E402
+from clearing_tools import files
+from clearing_tools.evidence import shock
+from clearing_tools.runner import ToolError
 
 ANOTHER = 54321
 FILES = files_of(HUB)
@@ -128,8 +129,7 @@ class Planted(Case):
         way.mkdir()
         os.chown(way, ANOTHER, ANOTHER)
         for number, write in enumerate(writers()):
-            between = "mask_of" if hasattr(files, "mask_of") else "mode_of_new"
-            real, done = getattr(files, between), []
+            real, done = files.mask_of, []
 
             def exchanged(*words: Any) -> Any:
                 if not done:
@@ -138,7 +138,7 @@ class Planted(Case):
                     os.chown(way, ANOTHER, ANOTHER, follow_symlinks=False)
                 return real(*words)
 
-            with unittest.mock.patch.object(files, between, exchanged), self.assertRaises(ToolError):
+            with unittest.mock.patch.object(files, "mask_of", exchanged), self.assertRaises(ToolError):
                 write(way / "new")
             self.assertEqual((len(done), os.listdir(victim)), (1, []), number)
             way.unlink()
@@ -170,7 +170,7 @@ class Planted(Case):
         # When all runs have begun.
         self.program(
             f'[ "$1" = defaults ] && sleep 1 && for part in "{place}"/.part-*; do [ -h "$part" ] || {{ mv "$part"'
-            f' "{place}/moved-$$"; ln -s "{victim}" "$part"; }}; done\nexec {PROGRAM} "$@"\n'
+            f' "{place}/moved-$$"; ln -s "{victim}" "$part"; }}; done\nexec {shlex.quote(PROGRAM)} "$@"\n'
         )
         done = subprocess.run(
             [str(ROOT / "bin/clearing-evidence"), "make", str(place / "evidence"), *map(str, FILES)],
@@ -250,20 +250,22 @@ class Planted(Case):
     def test_many_follows_no_link_in_its_folder(self):
         victim = self.file("victim", "kept\n")
         jobs = self.file("jobs.tsv", "\t".join(["a", "check", *map(str, FILES)]) + "\n")
-        # The program plants what comes next, where its own output goes.
-        plant = self.program(
-            f'cd "{self.folder}/results"; for part in a.part+*; do for e in .job .failed; do ln -s "{victim}"'
-            f' "$part$e"; done; done; ln -s "{victim}" a.out; exit ${{STATUS:-0}}\n'
+        # The program plants what comes next, where its own output goes, and says which links it has planted.
+        planted = self.folder / "planted"
+        self.program(
+            f'cd "{self.folder}/results"\nfor part in a.part+*; do case $part in *.err) continue ;; esac\n'
+            'for link in "$part.job" "$part.failed" a.out; do\n'
+            f'ln -s "{victim}" "$link" && echo "${{link##*.}}" >>"{planted}"; done; done; exit ${{STATUS:-0}}\n'
         )
-        self.assertIsNone(plant)
         for status in ("0", "6"):
             shutil.rmtree(self.folder / "results", ignore_errors=True)
+            planted.write_text("")
             subprocess.run(
                 [str(ROOT / "bin/clearing-many"), "run", str(jobs), str(self.folder / "results"), "1"],
                 capture_output=True,
                 env={**os.environ, "STATUS": status},
             )
-            self.assertEqual(victim.read_text(), "kept\n", status)
+            self.assertEqual((victim.read_text(), planted.read_text()), ("kept\n", "job\nfailed\nout\n"), status)
 
 
 @unittest.skipUnless(os.access("/dev/shm", os.W_OK), "nothing can be written below /dev/shm")

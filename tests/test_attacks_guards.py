@@ -38,7 +38,7 @@ class Guards(unittest.TestCase):
 
     def test_no_module_of_attacks_is_left_out(self):
         named = {row["module"] for row in self.rows()} | {"test_attacks_guards"}
-        self.assertEqual({path.stem for path in (ROOT / "tests").glob("test_attacks_*.py")} - named, set())
+        self.assertEqual({path.stem for path in (ROOT / "tests").glob("test_*attacks*.py")} - named, set())
 
     def test_no_test_is_named_for_two_threats_of_one_table(self):
         for part in (ROOT / "docs/GUARDS.md").read_text(encoding="utf-8").split("\n## "):

@@ -11,7 +11,7 @@ from common import HUB, PROGRAM, Case, Word, clearing, files_of, run_of
 from places import EachTool
 from evidences import EvidenceCase
 
-from clearing_tools.evidence import audit, bounds  # noqa: E402
+from clearing_tools.evidence import audit, bounds
 
 FILES = files_of(HUB)
 

@@ -1,12 +1,11 @@
 """Two thousand altered files over all readers of the package: none makes a traceback, and none has a number read
 otherwise than another reader reads it (tests/system/mutations.py)."""
-import sys
 import unittest
 
-from common import ROOT, Case
+import compared  # noqa: F401  # so that Python finds the modules of system/
+from common import Case
 
-sys.path.insert(0, str(ROOT / "tests/system"))
-import mutations  # noqa: E402
+import mutations
 
 # A seed of its own for each change of the readers; those that found something are kept.
 FILES, SEED = 2000, 20261130

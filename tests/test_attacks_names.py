@@ -7,7 +7,7 @@ from unittest import mock
 
 from common import Case, tool
 
-from clearing_tools.checks import field_hints, linter  # noqa: E402
+from clearing_tools.checks import field_hints, linter
 
 FORMULAS = ["=cmd|' /C calc'!A0", "+1+1", "@SUM(A1)", "-2+3", "=HYPERLINK(1)"]
 PLAIN = ["1=1", "A+B", "a@b", "Crédit-Loire", "'=1"]

@@ -283,7 +283,7 @@ class Planted(Case):
             done = self.run_in(
                 self.work,
                 [*run_of(name), *place],
-                CLEARING=os.path.abspath(PROGRAM),
+                CLEARING=PROGRAM,
                 PATH=path,
                 XDG_CACHE_HOME=str(script),
             )

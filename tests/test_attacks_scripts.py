@@ -8,15 +8,17 @@ import signal
 import stat
 import subprocess
 import unittest
-from typing import Any
+from typing import Any, Tuple
 
-import test_launcher
 from common import HUB, PROGRAM, ROOT, Case, Word, files_of
+from launcher import TOOLCHAIN, LauncherCase
 
 FILES = files_of(HUB)
 
 
-class Installing(Case):
+class InstallerCase(Case):
+    """A test with a program to install, and a prefix."""
+
     def setUp(self):
         super().setUp()
         self.script = self.executable("program", 'echo "$*"\n')
@@ -36,6 +38,8 @@ class Installing(Case):
             **more,
         )
 
+
+class Installing(InstallerCase):
     def test_what_is_installed_is_for_all_and_nobody_else_writes_it(self):
         modes = []
         for mask in (0o000, 0o077):
@@ -53,22 +57,41 @@ class Installing(Case):
             shutil.rmtree(self.prefix)
         self.assertEqual(modes[0], modes[1])
 
-    def test_an_interrupt_leaves_nothing_and_follows_no_link(self):
-        victim = self.file("victim", "kept\n")
+    def begun(self) -> "Tuple[subprocess.Popen[str], str]":
+        """An installation over an older program, as soon as it has a file, and what follows in that file's name."""
         (self.prefix / "bin").mkdir(parents=True)
         (self.prefix / "bin/clearing").write_text("old\n")
-        # The program to install is a pipe that is written late: by then links stand where the next files could go.
         running = self.start()
         self.until(lambda: list(self.prefix.rglob("*.new.*")))
-        for path in list(self.prefix.rglob("*.new.*")):
-            self.assertNotIn(str(running.pid), path.name)
+        os.killpg(running.pid, signal.SIGSTOP)
+        names = [path.name for path in self.prefix.rglob("*.new.*")]
+        for name in names:
+            self.assertNotIn(str(running.pid), name)
+        return running, ".new." + names[0].partition(".new.")[2]
+
+    def all_is_as_it_was(self, running: "subprocess.Popen[str]", told: str) -> None:
+        """The installation ends, tells why, and leaves the older program alone."""
+        os.killpg(running.pid, signal.SIGCONT)
+        _, said = running.communicate(timeout=60)
+        self.assertEqual(running.returncode, 1, said)
+        self.assertIn(told, said)
+        left = [path for path in self.prefix.rglob("*") if path.is_symlink() or not path.is_dir()]
+        self.assertEqual([str(path.relative_to(self.prefix)) for path in left], ["bin/clearing"])
+        self.assertEqual((self.prefix / "bin/clearing").read_text(), "old\n")
+
+    def test_an_interrupt_leaves_nothing(self):
+        running, _ = self.begun()
         os.killpg(running.pid, signal.SIGTERM)
-        running.communicate(timeout=60)
-        left = [str(path.relative_to(self.prefix)) for path in self.prefix.rglob("*") if not path.is_dir()]
-        if running.returncode:
-            self.assertEqual(left, ["bin/clearing"])
-            self.assertEqual((self.prefix / "bin/clearing").read_text(), "old\n")
-        self.assertEqual([name for name in left if ".new." in name or ".old." in name], [])
+        self.all_is_as_it_was(running, "it was interrupted; all is as it was")
+
+    def test_a_link_where_the_next_file_goes_is_not_followed(self):
+        """Its name can be foreseen once the first file is there."""
+        victim = self.file("victim", "kept\n")
+        running, end = self.begun()
+        next_one = self.prefix / "share/clearing" / f"VERSION{end}"
+        next_one.parent.mkdir(parents=True, exist_ok=True)
+        next_one.symlink_to(victim)
+        self.all_is_as_it_was(running, "share/clearing/VERSION cannot be written")
         self.assertEqual(victim.read_text(), "kept\n")
 
 
@@ -132,18 +155,13 @@ class Reporting(Case):
         self.assertFalse((self.folder / "page.html").exists())
 
 
-class Launching(unittest.TestCase):
+class Launching(LauncherCase):
     def test_the_toolchain_imports_nothing_of_the_working_folder(self):
-        launcher = test_launcher.Launcher("test_it_is_built_once")
-        launcher.setUp()
-        self.addCleanup(launcher.doCleanups)
-        launcher.rt.write_text(
-            '#!/bin/sh\necho "path=${PYTHONPATH-none}" >>"$CALLS"\n' + test_launcher.TOOLCHAIN.split("\n", 1)[1]
-        )
-        done = launcher.run_at(launcher.root, "a", PYTHONPATH=":")
+        self.rt.write_text('#!/bin/sh\necho "path=${PYTHONPATH-none}" >>"$CALLS"\n' + TOOLCHAIN.split("\n", 1)[1])
+        done = self.run_at(self.root, "a", PYTHONPATH=":")
         self.assertEqual((done.returncode, done.stdout), (0, "a here\n"))
         self.assertEqual(
-            {line for line in launcher.calls.read_text().split("\n") if line.startswith("path=")}, {"path=none"}
+            {line for line in self.calls.read_text().split("\n") if line.startswith("path=")}, {"path=none"}
         )
 
 
@@ -236,9 +254,7 @@ class Ended(Case):
         self.assertEqual((done.returncode, (self.folder / "f/a.out").read_text()), (0, "gen 1\n"), done.stderr)
 
 
-class Prefixes(Installing):
-    locals().update({name: None for name in vars(Installing) if name.startswith("test_")})
-
+class Prefixes(InstallerCase):
     def run_it(self, prefix: Word) -> "subprocess.CompletedProcess[str]":
         return subprocess.run(
             [str(ROOT / "tools/install.sh"), str(prefix)],

@@ -1,16 +1,13 @@
 """The independent checker against the program and against the plain model of tests/system."""
 import itertools
 import random
-import sys
 from typing import Any, Dict, Iterator, List, Sequence, Tuple
 from unittest import mock
 
 from common import ROOT, Case, Word, clearing, records, tool
+from compared import model
 
-sys.path.insert(0, str(ROOT / "tests/system"))
-import model  # noqa: E402
-
-from clearing_tools.evidence import audit  # noqa: E402
+from clearing_tools.evidence import audit
 
 # A has the label fundamental, B contagion, C is sound with something to spare, D owes nothing, and E has no debts at
 # all. Of its last debt A pays nothing.
@@ -263,7 +260,7 @@ class Audit(Case):
         raises = raises_of(net)
         single = 0
 
-        def counted(division: Any, turns: Any = audit.Division.one_by_one) -> None:
+        def counted(division: Any, turns: Any = audit.Division.one_by_one) -> Iterator[Any]:
             nonlocal single
             for turn in turns(division):
                 single += 1
@@ -370,7 +367,7 @@ class TwoWays(Case):
         level, webster = audit.below_equal, audit.BELOW["webster"]
         raised = lambda claims, units: [
             share + (share < claim) for share, claim in zip(level(claims, units), claims)
-        ]  # noqa: E731
+        ]
         wrong = {
             "equal": [raised, lambda claims, units: [units // len(claims)] * len(claims)],
             "losses": [

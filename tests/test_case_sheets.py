@@ -9,15 +9,15 @@ import unittest.mock
 from typing import Any
 
 import sheets
-import test_workbook_attacks as workbooks
 from common import ROOT, Case, Word, needs_packages
 from evidences import evidence
+from workbooks import xlsx_of
 
 import clearing_client as cc
 
 sys.path.append(str(ROOT / "bench"))
 
-import from_sheets  # noqa: E402
+import from_sheets
 
 LEI = {"529900T8BM49AURSDO55": "Nord, AG", "5493001KJTIIGC8Y1R12": "Ost S.A.", "213800D1EI4B9WTWWD28": "West & Söhne"}
 
@@ -53,7 +53,7 @@ class Sheets(Case):
             ["A", 0, 1234.5, 30, "Alpha, Inc."],
             ["B", 2, 0, 40, "Beta"],
         ]
-        book, data = openpyxl.load_workbook(io.BytesIO(workbooks.xlsx_of(rows))), io.BytesIO()
+        book, data = openpyxl.load_workbook(io.BytesIO(xlsx_of(rows))), io.BytesIO()
         for cells in ("A1:A2", "B1:C1", "D1:D2", "E1:E2"):
             book["Claims"].merge_cells(cells)
         book.save(data)

@@ -10,20 +10,11 @@ import unittest
 import zipfile
 from typing import Iterator
 
-from common import CHAIN, PACKAGES, ROOT, Case, Word, files_of, python_with
+from common import CHAIN, PACKAGES, ROOT, Case, Word, files_of
+from offline import OFFLINE, has_venv
+from pythons import python_with
 
 sys.path.insert(0, str(ROOT / "python"))
-
-
-def has_venv() -> bool:
-    """Whether virtual environments can be made."""
-    try:
-        import ensurepip  # noqa: F401
-        import venv  # noqa: F401
-    except ImportError:
-        return False
-    return True
-
 
 # The kinds of files of a wheel, by the folders that have others than Python's alone.
 KINDS = {
@@ -60,10 +51,6 @@ def imported(path: pathlib.Path) -> Iterator[str]:
                 and isinstance(node.args[0], ast.Constant)
             ):
                 yield str(node.args[0].value).partition(".")[0]
-
-
-# Pip may reach no index.
-OFFLINE = {**os.environ, "PIP_NO_INDEX": "1", "PIP_DISABLE_PIP_VERSION_CHECK": "1"}
 
 
 @unittest.skipUnless(has_venv(), "without venv (Debian's package python3-venv)")

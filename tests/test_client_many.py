@@ -3,6 +3,7 @@ others."""
 import concurrent.futures
 import os
 import pathlib
+import shlex
 import subprocess
 import sys
 import time
@@ -11,7 +12,8 @@ from typing import Any, Iterator, List, Tuple
 from unittest import mock
 
 from clients import network_of
-from common import CHAIN, HUB, ROOT, TWELVE, Case, needs_modules, python_with
+from common import CHAIN, HUB, ROOT, TWELVE, Case, needs_modules
+from pythons import python_with
 
 import clearing_client as cc
 from clearing_client import Network, Scenario, Scenarios, many, network, texts
@@ -83,7 +85,7 @@ class SideBySide(Case):
         # Each run waits until the other has begun, but not for ever.
         self.program(
             f'touch {self.folder}/$$; n=0; while [ $(ls {self.folder} | grep -c "^[0-9]*$") -lt 2 ]; do sleep 0.02; '
-            f'n=$((n + 1)); [ $n -lt 500 ] || exit 77; done; exec {os.environ["CLEARING"]} "$@"'
+            f'n=$((n + 1)); [ $n -lt 500 ] || exit 77; done; exec {shlex.quote(os.environ["CLEARING"])} "$@"'
         )
         self.assertEqual(len(list(cc.map_stress([network_of(CHAIN), network_of(HUB)], Scenarios.cuts([1]), jobs=2))), 2)
 

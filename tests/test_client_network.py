@@ -1,6 +1,7 @@
 """A network says the same in each form in which it can be given, and each task answers what the program prints."""
 import os
 import pathlib
+import shlex
 import unittest
 from typing import Any, Iterator, List, Tuple
 
@@ -58,7 +59,8 @@ class Tasks(Case):
         seen = self.folder / "seen.csv"
         net, before = network_of(TWELVE), os.environ["CLEARING"]
         self.program(
-            f'for word; do case $last in --journal) cat "$word" >{seen};; esac; last=$word; done; exec {before} "$@"'
+            f'for word; do case $last in --journal) cat "$word" >{seen};; esac; last=$word; done; '
+            f'exec {shlex.quote(before)} "$@"'
         )
         self.assertTrue(net.replay(cc.read(text)).lawful)
         self.assertEqual(seen.read_text(encoding="utf-8"), text)

@@ -6,7 +6,7 @@ import sys
 import unittest
 
 from common import ROOT, Case, needs_packages
-from test_client_install import has_venv
+from offline import has_venv
 
 BUILD = ROOT / "examples/notebook/build.py"
 CELL = """if True:

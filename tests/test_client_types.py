@@ -1,8 +1,7 @@
 """The packages, the scripts beside them and what tests share are typed, a program that uses the packages wrongly is
-told apart, and no name is idle."""
+told apart, and no function is idle."""
 import ast
 import builtins
-import configparser
 import pathlib
 import re
 import shutil
@@ -12,44 +11,16 @@ import unittest
 from typing import Iterable, Iterator, List, Set, Tuple
 
 from common import ROOT, Case
+from sources import SCRIPTS, SHARED, SOURCES, SYSTEM
 
-MYPY, FLAKE8 = shutil.which("mypy"), shutil.which("flake8")
-SOURCES = sorted((ROOT / "python/src").rglob("*.py"))
-TESTS = sorted((ROOT / "tests").rglob("*.py"))
-# What modules of tests share is typed as the scripts are.
-SHARED = [path for path in TESTS if path.parent == ROOT / "tests" and not path.name.startswith("test_")]
-SCRIPTS = sorted(
-    [ROOT / "python/build.py", *(ROOT / "bench").rglob("*.py"), *(ROOT / "tools/dev").glob("*.py"), *SHARED]
-)
-# Scripts of pages and their tests, and the package for R.
-OTHERS = sorted([*(ROOT / "python/src").rglob("*.mjs"), *(ROOT / "tests").rglob("*.mjs"), *(ROOT / "r").rglob("*.R")])
+MYPY = shutil.which("mypy")
 
 
 def checked_at_once(root: pathlib.Path) -> Tuple[List[str], List[str]]:
     """What is checked at once, seen from python/: two of the scripts are called build."""
     shared = [f"../tests/{path.name}" for path in sorted((root / "tests").glob("*.py")) if path.name[:5] != "test_"]
-    return ["src", "build.py", "../bench", *shared], ["../tools/dev"]
-
-
-def functions_in(paths: Iterable[pathlib.Path]) -> Iterator[Tuple[str, ast.FunctionDef]]:
-    """Each function of some files, with its place and name, by which a fault tells it."""
-    for path in paths:
-        for node in ast.walk(ast.parse(path.read_text(encoding="utf-8"))):
-            if isinstance(node, ast.FunctionDef):
-                yield f"{path.relative_to(ROOT)}:{node.lineno} {node.name}", node
-
-
-def untyped_in(text: str) -> Iterator[ast.FunctionDef]:
-    """The functions of a module of tests, and the methods of its classes, that do not say what they take and give. A
-    test, and what stands around tests, takes and gives nothing."""
-    tree = ast.parse(text)
-    bodies = [tree.body, *(node.body for node in tree.body if isinstance(node, ast.ClassDef))]
-    for node in (node for body in bodies for node in body if isinstance(node, ast.FunctionDef)):
-        given = [*node.args.posonlyargs, *node.args.args, *node.args.kwonlyargs, node.args.vararg, node.args.kwarg]
-        takes = [one for one in given if one and one.arg not in ("self", "cls")]
-        is_around = re.match(r"test_|(setUp|tearDown)(Class)?$", node.name)
-        if not is_around and (not node.returns or any(one.annotation is None for one in takes)):
-            yield node
+    system = [root / path.relative_to(ROOT) for path in SYSTEM]
+    return ["src", "build.py", "../bench", *shared], ["../tools/dev", *(str(path) for path in system if path.exists())]
 
 
 def idle_in(paths: Iterable[pathlib.Path], words: Set[str]) -> Iterator[str]:
@@ -208,68 +179,6 @@ class Sources(unittest.TestCase):
             self.assertEqual(
                 list(idle_in(paths, set())), ["third.py:1 there"], "of attributes the name alone does not tell"
             )
-
-    def test_a_function_has_some_40_lines(self):
-        lines = {name: node.end_lineno - node.lineno + 1 for name, node in functions_in([*SOURCES, *SCRIPTS])}
-        self.assertEqual({name: count for name, count in lines.items() if count > 44}, {})
-        self.assertGreater(max(lines.values()), 30)
-
-    def test_a_function_of_a_script_has_at_most_six_parameters_and_says_what_it_does(self):
-        found = dict(functions_in(SCRIPTS))
-        self.assertGreater(len(found), 250)
-        for name, node in found.items():
-            given = [node.args.vararg, node.args.kwarg, *node.args.posonlyargs, *node.args.args, *node.args.kwonlyargs]
-            self.assertLessEqual(len(list(filter(None, given))), 6, name)
-            if not node.name.startswith("__"):
-                self.assertTrue(ast.get_docstring(node), name)
-
-    def test_a_helper_of_a_test_says_its_types(self):
-        """The functions of the modules of tests but the tests themselves, and what stands within a function."""
-        modules = [path for path in TESTS if path.name.startswith("test_")]
-        untyped = [f"{path.name} {node.name}" for path in modules for node in untyped_in(path.read_text())]
-        self.assertEqual(untyped, [])
-        self.assertGreater(len(modules), 100)
-        helpers = "def one(a: int, *b, c: str) -> int:\n    pass\n\n\ndef two(d: int):\n    pass\n"
-        tests = "class A:\n    def test_it(self):\n        pass\n\n    def ok(self, f: int) -> None:\n        pass\n"
-        self.assertEqual([node.name for node in untyped_in(helpers + tests)], ["one", "two"])
-
-    def test_lines_have_the_one_length_of_the_settings(self):
-        settings = configparser.ConfigParser()
-        settings.read(ROOT / "python/.flake8")
-        most = settings.getint("flake8", "max-line-length")
-        wide = [
-            f"{path.relative_to(ROOT)}:{at}"
-            for path in [*SOURCES, *SCRIPTS, *TESTS, *OTHERS]
-            for at, text in enumerate(path.read_text(encoding="utf-8").split("\n"), 1)
-            if len(text) > most
-        ]
-        self.assertEqual((most, wide), (120, []))
-        self.assertGreater(len(OTHERS), 40)
-
-    def test_a_skip_stands_on_a_test(self):
-        """On another function it skips nothing, and hides what calls that."""
-
-        def astray(text: str) -> List[str]:
-            nodes = (node for node in ast.walk(ast.parse(text)) if isinstance(node, ast.FunctionDef))
-            return [
-                node.name
-                for node in nodes
-                if not node.name.startswith(("test", "setUp"))
-                and any("skip" in ast.unparse(one) for one in node.decorator_list)
-            ]
-
-        for path in TESTS:
-            self.assertEqual(astray(path.read_text(encoding="utf-8")), [], path)
-        self.assertEqual(astray("@unittest.skipIf(WHY, WHY)\ndef made():\n    pass\n"), ["made"])
-
-    def test_the_packages_and_the_scripts_have_no_idle_name(self):
-        if not FLAKE8:
-            self.skipTest("without flake8 (Debian's package flake8)")
-        words = ["python/src", "python/build.py", "tools/dev", "bench", "tests"]
-        done = subprocess.run(
-            [FLAKE8, "--config", "python/.flake8", *words], cwd=ROOT, capture_output=True, encoding="utf-8"
-        )
-        self.assertEqual((done.returncode, done.stdout), (0, ""))
 
 
 if __name__ == "__main__":

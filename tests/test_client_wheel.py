@@ -11,10 +11,10 @@ import zipfile
 from typing import Any, Tuple
 
 from common import CHAIN, PROGRAM, ROOT, Case, Word, files_of
-from test_client_install import OFFLINE, has_venv
+from offline import OFFLINE, has_venv
 
 sys.path.insert(0, str(ROOT / "python"))
-import build  # noqa: E402
+import build
 
 FILES = files_of(CHAIN)
 

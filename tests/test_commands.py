@@ -10,7 +10,7 @@ from typing import Any, List, Tuple
 from common import HUB, ROOT, Case, files_of, loaded, run_of
 
 sys.path.insert(0, str(ROOT / "python"))
-import build  # noqa: E402
+import build
 
 commands = loaded(ROOT / "tools/dev/commands.py")
 FILES = files_of(HUB)

@@ -1,8 +1,7 @@
-"""The account of a bank at the desk adds up, its debts are the program's, and the journal ends in what is paid."""
-import random
+"""The account of a bank at the desk is one of the program's word, and so are its debts; the journal ends in what is
+paid."""
 import re
 import unittest
-from typing import Tuple
 
 from common import TWELVE, clearing, files_of
 from desk import DeskCase, account_of
@@ -14,61 +13,6 @@ from clearing_tools.runner import ToolError
 
 
 class Accounts(DeskCase):
-    def test_an_account_adds_up_for_each_bank_of_many_networks(self):
-        chosen, lacking, whole = random.Random(84), 0, 0
-        runs = Runs(str(self.folder))
-        for number in range(200):
-            banks, debts = self.drawn(chosen)
-            files = self.net(banks, debts, "name,cash,rule,outside")
-            base = base_of(runs, str(files[1]), str(files[3]), None)
-            desk = Table(runs, base, Folder())
-            losses = tuple((at, chosen.randrange(50)) for at in range(0, len(base.banks), 3))
-            state = states.State(
-                cut=str(chosen.choice([0, 300, 1000])), keep=str(chosen.choice([1000, 1000, 600, 0])), losses=losses
-            )
-            found = desk.cleared(state)
-            for at, bank in enumerate(found.banks):
-                one = account_of(base, found, at)
-                rest = (
-                    one.whole - one.loss - sum(line.claim - line.paid for line in one.unpaid) - one.outside - one.lost
-                )
-                unpaid = bank.owed + bank.outside - bank.paid - bank.outside_paid
-                self.assertEqual((one.left, rest), (bank.equity - unpaid,) * 2, (number, bank.name))
-                self.assertEqual(one.left < 0, bank.state != "sound", (number, bank.name))
-                self.assertEqual(one.loss, base.banks[at].cash - found.left[at])
-                self.assertEqual(
-                    [line.claim - line.paid for line in one.unpaid],
-                    sorted((line.claim - line.paid for line in one.unpaid), reverse=True),
-                )
-                for line in one.unpaid:
-                    pair = [
-                        debt
-                        for debt in found.payments
-                        if (debt.debtor, debt.creditor) == (base.banks[line.debtor].name, bank.name)
-                    ]
-                    self.assertEqual(
-                        (line.claim, line.paid), (sum(debt.claim for debt in pair), sum(debt.paid for debt in pair))
-                    )
-                lacking, whole = lacking + (one.left < 0), whole + 1
-        self.assertGreater(lacking, 300)
-        self.assertGreater(whole, lacking + 300)
-
-    def drawn(self, chosen: random.Random) -> Tuple[str, str]:
-        """The lines of a network drawn at random: of up to twelve banks, some of which owe something outside, in up
-        to three classes."""
-        names = [f"B{at}" for at in range(chosen.randrange(2, 13))]
-        rules = ("order", "equal", "losses", "jefferson", "webster", "adams")
-        banks = "".join(
-            f"{name},{chosen.randrange(120)},{chosen.choice(rules)},{chosen.choice([0, 0, chosen.randrange(60)])}\n"
-            for name in names
-        )
-        pairs = [(one, other, rank) for one in names for other in names if one != other for rank in (1, 2, 3)]
-        debts = "".join(
-            f"{one},{other},{rank},{chosen.randrange(90)}\n"
-            for one, other, rank in chosen.sample(pairs, min(len(pairs), 3 * len(names)))
-        )
-        return banks, debts
-
     def test_an_account_that_does_not_come_to_the_program_s_word_is_told(self):
         runs = Runs(str(self.folder))
         base = base_of(runs, *map(str, files_of(TWELVE)[1::2]), None)

@@ -8,6 +8,7 @@ import re
 import shlex
 import shutil
 import socket
+import types
 import unittest
 import unittest.mock
 from typing import Any, Callable, Optional, Union
@@ -91,13 +92,13 @@ def a_link_of_a_folder(folder: pathlib.Path) -> None:
 
 def a_socket(folder: pathlib.Path) -> None:
     (folder / "stress.csv").unlink()
-    here = os.getcwd()
-    with socket.socket(socket.AF_UNIX) as made:
-        try:
-            os.chdir(folder)
-            made.bind("stress.csv")
-        finally:
-            os.chdir(here)
+    # The name of a socket is short, and the folder that a process works in is that of all its threads.
+    place = os.open(folder, os.O_RDONLY | os.O_DIRECTORY)
+    try:
+        with socket.socket(socket.AF_UNIX) as made:
+            made.bind(f"/proc/self/fd/{place}/stress.csv")
+    finally:
+        os.close(place)
 
 
 def a_pipe(folder: pathlib.Path) -> None:
@@ -130,7 +131,7 @@ def a_sum(change: Any) -> Work:
     return work
 
 
-SOUND = both(*(alter("scenario-1/defaults.csv", word, "sound", 9) for word in ("contagion",)))
+SOUND = alter("scenario-1/defaults.csv", "contagion", "sound", 9)
 MANY = [put(f"more-{number}", "") for number in range(1100)]
 
 # What is done; the status; a line of the output or the messages.
@@ -436,9 +437,8 @@ class Tampering(EvidenceCase):
         shutil.rmtree(folder)
         # Nor is a copy made that takes more than half of the room.
         folder = self.hub(ONE)
-        with unittest.mock.patch(
-            "shutil.disk_usage", return_value=shutil._ntuple_diskusage(0, 0, 9_000)
-        ), self.assertRaises(NoRoomError) as caught:
+        room = unittest.mock.patch("shutil.disk_usage", return_value=types.SimpleNamespace(free=9_000))
+        with room, self.assertRaises(NoRoomError) as caught:
             self.copied(folder)
         self.assertIn(" bytes, and there is room for 4,500", str(caught.exception))
 

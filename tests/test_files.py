@@ -7,8 +7,8 @@ from typing import Any, Dict
 
 from common import PACKAGES, ROOT, Case, files_of, run_of
 
-from clearing_tools import files  # noqa: E402
-from clearing_tools.runner import ToolError  # noqa: E402
+from clearing_tools import files
+from clearing_tools.runner import ToolError
 
 
 class Files(Case):

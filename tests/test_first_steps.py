@@ -2,6 +2,7 @@
 small repository with the packages, whose toolchain notes its calls."""
 import os
 import pty
+import shlex
 import shutil
 import subprocess
 import sys
@@ -9,8 +10,8 @@ import time
 import unittest
 from typing import Any
 
-import test_launcher
 from common import CHAIN, PACKAGES, PROGRAM, ROOT, Word, files_of, run_of
+from launcher import LauncherCase
 
 FILES = files_of(CHAIN)
 WAYS = (
@@ -18,13 +19,10 @@ WAYS = (
     "or build it in the repository: ./clearing, or this command with --build",
 )
 # It links the tested program.
-LINKS = f"exec '{os.path.abspath(PROGRAM)}' \"$@\""
+LINKS = f'exec {shlex.quote(PROGRAM)} "$@"'
 
 
-class FirstSteps(test_launcher.Launcher):
-    # The tests of the launcher itself run once.
-    locals().update({name: None for name in vars(test_launcher.Launcher) if name.startswith("test_")})
-
+class FirstSteps(LauncherCase):
     def setUp(self):
         super().setUp()
         self.rt.write_text(self.rt.read_text().replace("echo 'echo \"$*\" here'", 'echo "$LINKS"'))

@@ -4,9 +4,10 @@ import sys
 import xml.etree.ElementTree
 from typing import Any, Tuple
 
-from common import ROOT, Case, Word, clearing, files_of, needs_modules, python_with, tool
+from common import ROOT, Case, Word, clearing, files_of, needs_modules, tool
+from pythons import python_with
 
-from clearing_tools.exports import graphml  # noqa: E402
+from clearing_tools.exports import graphml
 
 TWELVE = files_of(ROOT / "examples/twelve-banks")
 SPACE = "{http://graphml.graphdrawing.org/xmlns}"

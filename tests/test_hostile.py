@@ -12,11 +12,11 @@ import unittest
 import xml.etree.ElementTree as tree
 from typing import Any, Iterator, List
 
-from common import python_with
 from odd_names import DASHED, MARKUP, MORE_NAMES, ODD_NAMES, all_names, untrimmed
 from places import Place, records_of
+from pythons import python_with
 
-import clearing_client as cc  # noqa: E402
+import clearing_client as cc
 
 SEED, ROUNDS = os.environ.get("HOSTILE_SEED", "1"), int(os.environ.get("HOSTILE_ROUNDS", "1"))
 SPACE = "{http://graphml.graphdrawing.org/xmlns}"

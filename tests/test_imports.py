@@ -5,8 +5,8 @@ import unittest
 from common import ROOT, Case, loaded, tool
 
 sys.path.insert(0, str(ROOT / "python/src"))
-from clearing_tools.evidence import source  # noqa: E402
-from clearing_tools.imports import made_case  # noqa: E402
+from clearing_tools.evidence import source
+from clearing_tools.imports import made_case
 
 imports = loaded(ROOT / "tools/dev/imports.py")
 

@@ -9,9 +9,9 @@ import tempfile
 import unittest
 from typing import Any, Iterator, List, Tuple
 
+import compared  # noqa: F401  # so that Python finds the modules of system/
 from common import PROGRAM, ROOT, Word, loaded
 
-sys.path.insert(0, str(ROOT / "tests/system"))
 from model import Bank, Debt, Net, estate, least, share, state
 
 TEXT = (ROOT / "docs/INTERPRETING.md").read_text(encoding="utf-8")

@@ -1,16 +1,13 @@
 """Every task on networks of the greatest size, 1,000 banks, 20,000 debts and 10,000,000 units: beside the plain model
 tests/system/model.py where that is quick enough, else by another route to the same answer."""
 import random
-import sys
 import unittest
 from typing import Any, List, Tuple
 
-from common import ROOT, clearing
-from compared import Compared
+from common import clearing
+from compared import Compared, model
 
-sys.path.insert(0, str(ROOT / "tests/system"))
-import model  # noqa: E402
-from networks import judge_compression, judge_journal  # noqa: E402
+from networks import judge_compression, judge_journal
 
 BANKS, DEBTS, UNITS = 1000, 20000, 10_000_000
 

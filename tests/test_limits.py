@@ -2,11 +2,9 @@
 do, that a network within the standard limits has the same answers by both, and that `--limits` is a word of each task
 that reads files."""
 import itertools
-import subprocess
 import unittest
 from typing import Any, List, Sequence, Tuple
 
-import test_tasks
 from common import CHAIN, EXAMPLES, TWELVE, Case, Word, clearing, files_of
 
 BANKS, DEBTS = b"name,cash,rule\n", b"debtor,creditor,class,claim\n"
@@ -282,32 +280,6 @@ class Words(Case):
             ):
                 words = [*task.split(), *files_of(example)]
                 self.assertEqual(clearing(*words, *WIDE).stdout, clearing(*words).stdout, words)
-
-
-def widely(*words: Word) -> "subprocess.CompletedProcess[bytes]":
-    """A run with wide limits beside, of the tasks that have the word."""
-    return clearing(*(() if "gen" in words else WIDE), *words)
-
-
-class KnownTextsByWideLimits(test_tasks.KnownTexts):
-    """The texts that are known of networks within the standard limits, with the wide ones said."""
-
-    def printed(self, *words: Word) -> str:
-        done = widely(*words)
-        self.assertEqual((done.returncode, done.stderr), (0, b""), words)
-        return done.stdout.decode()
-
-
-class OtherFormsByWideLimits(test_tasks.OtherForms):
-    """The same of other forms of files, names and words."""
-
-    printed = KnownTextsByWideLimits.printed
-
-
-def load_tests(loader: unittest.TestLoader, *_: Any) -> unittest.TestSuite:
-    """The tests of this module, without those that it took from another."""
-    cases = (Rows, Words, Large, KnownTextsByWideLimits, OtherFormsByWideLimits)
-    return unittest.TestSuite(loader.loadTestsFromTestCase(case) for case in cases)
 
 
 if __name__ == "__main__":

@@ -8,7 +8,8 @@ import types
 import unittest
 from typing import Any
 
-from common import CHAIN, ROOT, Case, files_of, needs_modules, needs_packages, python_with, tool
+from common import CHAIN, ROOT, Case, files_of, needs_modules, needs_packages, tool
+from pythons import python_with
 
 import clearing_client as cc
 from clearing_client.format import MAX_CLAIM

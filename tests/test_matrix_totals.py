@@ -64,7 +64,7 @@ class Totals(ImportCase):
         )
 
     def test_wrong_totals_are_refused_with_both_numbers_and_the_cell(self):
-        for name, word in [("Total", "Total"), ("All banks", "'All banks'"), ("", "''")]:
+        for name in ("Total", "All banks", ""):
             for row, column, right, wrong, others in [
                 (5, "B", "5,7,12", "5,8,12", 7),
                 (3, name or "without a name", "8,10,4\n", "8,11,4\n", 10),

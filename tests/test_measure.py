@@ -14,15 +14,16 @@ import sys
 from typing import Any, List, Optional, Tuple
 from unittest import mock
 
-from common import PROGRAM, ROOT, Case, Word, python_with
+from common import PROGRAM, ROOT, Case, Word
+from pythons import python_with
 
 sys.path.append(str(ROOT / "bench"))
-import inputs  # noqa: E402
-import instructions  # noqa: E402
-import measure  # noqa: E402
-import scale  # noqa: E402
-import timing  # noqa: E402
-import wide_networks  # noqa: E402
+import inputs
+import instructions
+import measure
+import scale
+import timing
+import wide_networks
 
 # A peer that is the program itself, as a compiler makes it that only writes scripts.
 RUSTC = """#!/bin/sh

@@ -6,7 +6,8 @@ import subprocess
 from typing import Any
 from unittest import mock
 
-from common import CHAIN, PACKAGES, Case, files_of, needs_modules, python_with, run_of, tool
+from common import CHAIN, PACKAGES, Case, files_of, needs_modules, run_of, tool
+from pythons import python_with
 
 import clearing_client as cc
 from clearing_client import description

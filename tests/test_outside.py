@@ -37,7 +37,7 @@ class Outside(Case):
         self.files = ["--banks", self.file("banks.csv", BANKS), "--debts", self.file("debts.csv", DEBTS)]
         self.thirds = {task: [f"--{name}", self.file(name, text)] for task, (name, text) in THIRDS.items()}
 
-    def run_on(self, *words: Word, **how: Any) -> Tuple[int, bytes, bytes]:
+    def run_on(self, *words: Word, **how: Any) -> Tuple[int, str, str]:
         """A run of the program: its status, what it writes and what it tells."""
         how = {"stdin": subprocess.DEVNULL, "timeout": SECONDS, "cwd": self.folder, **how}
         done = subprocess.run(

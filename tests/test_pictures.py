@@ -1,19 +1,19 @@
 """The pictures: what they show is what the program says, to be read in grey print and by the colour-blind as well."""
 import pathlib
 import re
-import shutil
 import subprocess
 import sys
 import xml.etree.ElementTree as tree
 from typing import Any, List, Tuple
 
-from common import PROGRAM, ROOT, Case, Word, clearing, files_of, needs_modules, python_with, run_of, tool
+from common import PROGRAM, ROOT, Case, Word, clearing, files_of, needs_modules, run_of, tool
 from odd_names import ODD_NAMES
+from pythons import python_with
 
-from clearing_tools.drawing import lettering  # noqa: E402
-from clearing_tools.labels import shown  # noqa: E402
-from clearing_tools.drawing.shortfalls_picture import parts_owed  # noqa: E402
-from clearing_tools.texts import read_banks, read_outside, read_payments  # noqa: E402
+from clearing_tools.drawing import lettering
+from clearing_tools.labels import shown
+from clearing_tools.drawing.shortfalls_picture import parts_owed
+from clearing_tools.texts import read_banks, read_outside, read_payments
 
 HUB = files_of(ROOT / "examples/hub")
 CHAIN = files_of(ROOT / "examples/chain")
@@ -416,7 +416,7 @@ class Script(Case):
         python = python_with("matplotlib")
         if not python:
             self.skipTest("no Python here has matplotlib")
-        run = lambda *words: subprocess.run(  # noqa: E731
+        run = lambda *words: subprocess.run(
             [ROOT / "tools/dev/pictures.sh", *words],
             capture_output=True,
             encoding="utf-8",
@@ -439,4 +439,3 @@ class Script(Case):
             )
         self.assertTrue((self.folder / "a folder/core-shortfalls.svg").exists())
         self.assertTrue((self.folder / "a folder/twelve-banks-stress.svg").exists())
-        self.assertFalse(shutil.which("dot", path="/nowhere"))

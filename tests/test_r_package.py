@@ -12,6 +12,7 @@ import unittest
 from typing import Any, List
 
 from common import PROGRAM, ROOT, Case, Word, needs
+from offline import ALONE
 
 from clearing_client import Case as BankCase
 from clearing_client import Network, Source
@@ -60,10 +61,6 @@ def named(script: pathlib.Path) -> List[str]:
 def passed(printed: str) -> List[str]:
     """The names of the tests that passed."""
     return re.findall("(?m)^passed: (.*)$", printed)
-
-
-# What R's checks ask other machines for: an index of packages, and the time.
-ALONE = {"_R_CHECK_CRAN_INCOMING_": "false", "_R_CHECK_SYSTEM_CLOCK_": "false"}
 
 
 def ran(*words: Word, folder: Any = None, libraries: str = "", **more: Any) -> str:

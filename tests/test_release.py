@@ -11,10 +11,10 @@ import unittest
 from typing import Any, List
 
 from common import PROGRAM, ROOT, Case, Word, files_of, needs
-from test_r_package import ALONE
+from offline import ALONE
 
 sys.path.insert(0, str(ROOT / "python"))
-import build  # noqa: E402
+import build
 
 LACKS = [name for name in ("pandoc", "dpkg-deb", "git", "Rscript") if not shutil.which(name)]
 if not LACKS and subprocess.run(["Rscript", "-e", "library(knitr)"], capture_output=True).returncode:

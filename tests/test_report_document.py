@@ -6,10 +6,11 @@ import sys
 import unittest
 from typing import Optional
 
-from common import Case, needs, python_with, tool
+from common import Case, needs, tool
+from pythons import python_with
 from reports import PYTHON, TWELVE, Report, files_of
 
-from clearing_tools.report import markdown  # noqa: E402
+from clearing_tools.report import markdown
 
 DOCX = python_with("jinja2", "docx")
 READ = """

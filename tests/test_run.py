@@ -3,9 +3,12 @@ import ast
 import os
 import subprocess
 import sys
+import unittest.mock
 from typing import List, Tuple
 
+import common
 from common import ROOT, Case, Word
+from pythons import python_with
 
 GOOD = "import unittest\n\nclass Good(unittest.TestCase):\n    def test_good(self):\n        pass\n"
 SKIPPED = GOOD + '\n    @unittest.skip("no moon")\n    def test_moon(self):\n        pass\n'
@@ -38,19 +41,30 @@ OF_CLASS = (
 )
 BROKEN = "import no_such_module\n"
 GONE = "import os\nos._exit(3)\n"
+# A module that waits for a program which waits for another.
+HANGS = """import pathlib, subprocess, unittest
+class Hangs(unittest.TestCase):
+    def test_it_waits(self):
+        subprocess.run(["sh", "-c", "sleep 600 & echo $! >begun; wait"], cwd=pathlib.Path(__file__).parent)
+"""
 
 
 class Run(Case):
     def setUp(self):
         super().setUp()
+        self.seconds = 300
         self.device = self.file("device", "")
         self.device.chmod(0o666)
 
     def run_of(self, *words: Word, **modules: str) -> Tuple[int, List[str]]:
         """The status and the lines of a run of some modules of tests with some words."""
         text = (ROOT / "tests/run.py").read_text()
-        self.assertIn('"/dev/null"', text)
-        self.file("run.py", text.replace('"/dev/null"', repr(str(self.device))))
+        for old, new in (('"/dev/null"', repr(str(self.device))), ("SECONDS = 3600 ", f"SECONDS = {self.seconds} ")):
+            self.assertIn(old, text)
+            text = text.replace(old, new)
+        self.file("run.py", text)
+        for name in ("ending.py", "pythons.py"):
+            self.file(name, (ROOT / "tests" / name).read_text())
         for name, text in modules.items():
             self.file(f"test_{name}.py", text)
         environment = {**os.environ, "PYTHONDONTWRITEBYTECODE": "1"}
@@ -84,6 +98,13 @@ class Run(Case):
         for text in (OF_CLASS, BROKEN, GONE, ""):
             status, lines = self.run_of(a=GOOD, b=text)
             self.assertEqual((status, lines[-1]), (1, "1 passed, 1 failed"), text)
+
+    def test_a_module_that_hangs_is_ended_with_all_that_it_has_started_and_fails(self):
+        self.seconds = 3
+        status, lines = self.run_of(a=GOOD, b=HANGS)
+        self.assertEqual((status, lines[-1]), (1, "1 passed, 1 failed"))
+        self.assertIn("test_it_waits", lines[lines.index("test_b was ended after 3 seconds") - 1])
+        self.until(lambda: not common.is_running(int((self.folder / "begun").read_text())))
 
     def test_a_skip_that_no_list_names_fails_on_request(self):
         status, lines = self.run_of("--skips-fail", self.file("skips.txt", "# none\n"), a=GOOD, b=SKIPPED)
@@ -128,3 +149,46 @@ class Run(Case):
         for words in (["--skips-fail"], ["--note"], ["--skips-fail", self.folder / "none.txt"], ["--other", "x"]):
             status, lines = self.run_of(*words, a=GOOD)
             self.assertEqual((status, lines), (2, []), words)
+
+
+class Shared(Case):
+    """What the tests run by `common`."""
+
+    def test_a_program_that_is_named_from_here_is_found_from_anywhere(self):
+        (self.folder / "programs").mkdir()
+        program = self.executable("programs/clearing", "exit 7\n")
+        code = (
+            "import os, sys, common; os.chdir('/'); print(os.environ['CLEARING']); "
+            "sys.exit(common.clearing().returncode)"
+        )
+        path = os.pathsep.join(["programs", os.environ["PATH"]])
+        for named in ("programs/clearing", "./programs/../programs/clearing", "clearing", str(program)):
+            done = subprocess.run(
+                [sys.executable, "-c", code],
+                env={**os.environ, "CLEARING": named, "PATH": path, "PYTHONPATH": str(ROOT / "tests")},
+                cwd=self.folder,
+                capture_output=True,
+                encoding="utf-8",
+            )
+            self.assertEqual((done.returncode, done.stdout), (7, f"{program}\n"), (named, done.stderr))
+
+    def test_a_folder_that_a_package_has_left_behind_is_no_package(self):
+        (self.folder / "left_behind").mkdir()
+        self.file("still_there.py", "")
+        with unittest.mock.patch.dict(os.environ, PYTHONPATH=str(self.folder)):
+            self.assertIsNone(python_with("left_behind"))
+            self.assertEqual(python_with("still_there"), sys.executable)
+
+    def test_what_hangs_is_ended_with_all_that_it_has_started(self):
+        """Also what stays where the one that has started it is gone, and holds its output open."""
+        begun = self.folder / "begun"
+        hangs = self.executable("hangs", f'(sleep 600 & echo $! >>"{begun}")\nsleep 600 & echo $! >>"{begun}"\nwait\n')
+        for run in (lambda: common.clearing("check"), lambda: common.tool("clearing-lint")):
+            begun.write_text("")
+            with unittest.mock.patch.multiple(
+                common, LONGEST=1, PROGRAM=str(hangs), run_of=lambda *_: [str(hangs)]
+            ), self.assertRaisesRegex(subprocess.TimeoutExpired, "hangs.*timed out after 1 seconds"):
+                run()
+            started = list(map(int, begun.read_text().split()))
+            self.assertEqual(len(started), 2)
+            self.until(lambda: not any(map(common.is_running, started)))

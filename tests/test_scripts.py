@@ -9,10 +9,9 @@ import unittest
 from typing import Iterator, Tuple
 
 from common import ROOT, Case, needs
+from sources import FOLDERS, MODULES
 
 SETTINGS = ROOT / "tests/script/tsconfig.json"
-FOLDERS = [ROOT / "python/src/clearing_tools" / part for part in ("drawing/web/script", "desk/script")]
-MODULES = sorted(path for folder in FOLDERS for path in folder.glob("*.mjs"))
 MOST_LINES = 30  # of a function
 # What a module exports, with the comment before it.
 EXPORT = re.compile(

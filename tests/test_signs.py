@@ -4,12 +4,13 @@ import re
 import sys
 import unicodedata
 
-from common import Case, python_with, tool
+from common import Case, tool
+from pythons import python_with
 
-from clearing_tools import runner  # noqa: E402
-from clearing_tools.checks import names as odd  # noqa: E402
-from clearing_tools.labels import word_shown  # noqa: E402
-from clearing_tools.runner import shown  # noqa: E402
+from clearing_tools import runner
+from clearing_tools.checks import names as odd
+from clearing_tools.labels import word_shown
+from clearing_tools.runner import shown
 
 TURNING = [chr(code) for code in (*range(0x202A, 0x202F), *range(0x2066, 0x206A), 0x200E, 0x200F, 0x061C)]
 # Signs of Unicode that are formats and are seen: signs of numbers and of abbreviation that stand before letters.

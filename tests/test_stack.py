@@ -5,18 +5,15 @@ import json
 import re
 import resource
 import subprocess
-import sys
 import unittest
 from typing import Dict, Iterator, List, Tuple
 from unittest import mock
 
 from common import PROGRAM, ROOT, TWELVE, Case, Word, clearing, files_of, needs
+from compared import model
 
 from clearing_tools.checks import why
-
-sys.path.insert(0, str(ROOT / "tests/system"))
-import model  # noqa: E402
-from networks import judge_compression  # noqa: E402
+from networks import judge_compression
 
 STACK = 256 * 1024
 # For what is nested deepest.

@@ -2,18 +2,15 @@
 documents, words and names in other dress: what a test of a library's calls would show, shown by the printed bytes of
 the program."""
 import random
-import sys
 import unittest
 from collections.abc import Iterable
 from pathlib import Path
 from typing import Any, List
 
-from common import CHAIN, ROOT, TWELVE, Case, clearing, files_of
-from compared import Compared
+from common import CHAIN, TWELVE, Case, Word, clearing, files_of
+from compared import Compared, model
 
-sys.path.insert(0, str(ROOT / "tests/system"))
-import model  # noqa: E402
-from networks import RULES, generated, judge_compression, random_journal, scenarios_toml  # noqa: E402
+from networks import RULES, generated, judge_compression, random_journal, scenarios_toml
 
 Bank, Debt, Net, Scenario = model.Bank, model.Debt, model.Net, model.Scenario
 DEBTS = "debtor,creditor,class,claim\n"
@@ -444,6 +441,21 @@ class OtherForms(Case):
             self.printed("gen", "--seed=9", "--size=1000", "--tries=20000"),
             self.printed("gen", "--tries", "20000", "--size", "1000", "--seed", "9"),
         )
+
+
+class KnownTextsByWideLimits(KnownTexts):
+    """The texts that are known of networks within the standard limits, with the wide ones said."""
+
+    def printed(self, *words: Word) -> str:
+        done = clearing(*(() if "gen" in words else ("--limits", "wide")), *words)
+        self.assertEqual((done.returncode, done.stderr), (0, b""), words)
+        return done.stdout.decode()
+
+
+class OtherFormsByWideLimits(OtherForms):
+    """The same of other forms of files, names and words."""
+
+    printed = KnownTextsByWideLimits.printed
 
 
 if __name__ == "__main__":

@@ -1,13 +1,12 @@
 """The numbers of docs/THEORY.md: its commands print what stands there, and its tables are those of a plain model."""
 import re
-import sys
 import unittest
 from typing import List
 
+import compared  # noqa: F401  # so that Python finds the modules of system/
 from common import ROOT
-from test_docs import page_run
+from pages import page_run
 
-sys.path.insert(0, str(ROOT / "tests/system"))
 from model import Bank, Debt, Net, pay, share
 
 TEXT = (ROOT / "docs/THEORY.md").read_text(encoding="utf-8")

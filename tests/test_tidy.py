@@ -92,7 +92,7 @@ class Tidy(Case):
         self.assertEqual(blocks, [line for line in text.splitlines() if line.count(",") == 4 and line[-1].isdigit()])
 
     def test_what_is_printed_once(self):
-        totals = lambda *words: table_of(self.tidy(self.printed(*words))["totals"])[0]  # noqa: E731
+        totals = lambda *words: table_of(self.tidy(self.printed(*words))["totals"])[0]
         self.assertEqual(totals("gen", "--seed", 1, "--size", 3, "--tries", 3)["banks"], "3")
         self.assertEqual(totals("rescue", *CHAIN, "--bank", "A"), {"bank": "A", "added": "3", "short": "1"})
         journal = self.file("j.csv", "stamp,debtor,creditor,class,to\n1,A,B,1,8\n")

@@ -10,8 +10,9 @@ import shutil
 import subprocess
 import sys
 
-from common import ROOT, Case, Word, python_with, run_of, tool
+from common import ROOT, Case, Word, run_of, tool
 from imported import TOTALS, TotalsCase
+from pythons import python_with
 
 from clearing_tools.imports import options, summary
 from clearing_tools.runner import ToolError

@@ -8,9 +8,9 @@ import subprocess
 import unittest
 from typing import Dict, Iterable, Iterator, List, Set
 
-from common import ROOT, Case, needs_modules, python_with
-from test_client_types import SCRIPTS, SOURCES
-from test_scripts import MODULES
+from common import ROOT, Case, needs_modules
+from pythons import python_with
+from sources import MODULES, SCRIPTS, SOURCES
 
 TOOLS = ROOT / "python/src/clearing_tools"
 GUIDE = set(re.findall(r"\w+", (ROOT / "docs/PYTHON.md").read_text(encoding="utf-8")))
@@ -95,7 +95,7 @@ work([Pair(1, 2, 3, 4)], Other(), {"read": 1, "idle": 2}, least=1)
 
 def unread_in(root: pathlib.Path) -> List[str]:
     """What is of no use in the packages of a checkout."""
-    line = [python_with("mypy"), ROOT / "tests/unread.py", root]
+    line = [python_with("mypy"), ROOT / "tools/dev/unread.py", root]
     done = subprocess.run(line, capture_output=True, encoding="utf-8")
     if done.returncode:
         raise AssertionError(done.stderr)

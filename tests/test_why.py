@@ -10,7 +10,7 @@ from typing import List
 from common import PROGRAM, ROOT, Case, needs_checkout, tool
 from odd_names import ODD_NAMES, all_names
 
-from clearing_tools.checks import why  # noqa: E402
+from clearing_tools.checks import why
 
 LINES = 3000
 VALUES = [

@@ -8,8 +8,9 @@ import sys
 import zipfile
 from typing import Any, Dict
 
-from common import ROOT, Case, Word, files_of, needs, needs_modules, python_with, tool
+from common import ROOT, Case, Word, files_of, needs, needs_modules, tool
 from imported import ImportCase
+from pythons import python_with
 
 PYTHON = python_with("openpyxl") or sys.executable
 BANKS = "name,cash,rule\nA,3,webster\nB,4,webster\nC,5,webster\n"

@@ -1,19 +1,7 @@
-"""The words that results are said in, and those that say what no result does. docs/INTERPRETING.md gives the
-reasons: a label is no cause, what is unpaid is no loss, and a loss is what all keep less."""
+"""The words that say what no result does, each with what is said in its place. docs/INTERPRETING.md gives the reasons:
+a label is no cause, what is unpaid is no loss, and a loss is what all keep less."""
 import re
-from typing import Dict, List, Tuple
-
-USED: Dict[str, str] = {
-    "unpaid": "what a bank owes and does not pay",
-    "own fundamentals": "the label of a bank that could not pay even if all its debtors paid in full",
-    "contagion": "the label of a bank in default that could pay then",
-    "gridlock": "the label contagion, of a bank that pays all at the greatest payments",
-    "keeps": "cash and receipts less all that a bank owes in the file; not book equity",
-    "keeps less": "a loss: what a bank keeps less than in another result",
-    "falls": "is in default where it stood",
-    "least rescue": "the least cash that lets a bank pay in full",
-}
-"""The words of pages, pictures and documents, with what each means."""
+from typing import List, Tuple
 
 FORBIDDEN: List[Tuple[str, str]] = [
     (r"creditors?(?: banks?)? (?:will |would )?(?:lose|loses|lost)", "unpaid, or keep less"),

@@ -10,6 +10,7 @@ import os
 import pathlib
 import signal
 import sys
+from typing import Dict, List
 
 sys.dont_write_bytecode = True
 from running import Runner
@@ -19,9 +20,9 @@ FILES = ["--banks", "banks.csv", "--debts", "debts.csv"]
 REFUSED = (6, b"", b"clearing: out of memory\n")
 
 
-def jobs_of(task, bank, size, tries):
+def jobs_of(task: str, bank: str, size: str, tries: str) -> List[List[str]]:
     """The jobs that are tried of a task."""
-    each = {
+    each: Dict[str, List[List[str]]] = {
         "clear": [[], ["--show", "both", "--workers", "1"], ["--show", "both", "--workers", "2"]],
         "defaults": [["--workers", "1"], ["--workers", "2"]],
         "bounds": [["--workers", "1"], ["--workers", "2"]],
@@ -38,18 +39,22 @@ def jobs_of(task, bank, size, tries):
 
 
 class Refusals:
-    def __init__(self, program):
+    """Runs of a program in which allocations are refused, and how many of them were wrong."""
+
+    def __init__(self, program: str) -> None:
         self.runner, self.cases, self.wrong, self.ended = Runner(program, LIMIT), 0, 0, False
         self.environment = {**os.environ, "LD_PRELOAD": os.path.abspath("refuse.so")}
 
-    def end(self, *_):
+    def end(self, *_: object) -> None:
+        """Ends all after the run under way."""
         self.ended = True
 
-    def fails(self, words, what):
+    def fails(self, words: List[str], what: str) -> None:
+        """Counts a wrong run, and tells what is wrong."""
         self.wrong += 1
         print(f"wrong: {' '.join(words)}: {what}", flush=True)
 
-    def is_whole(self, words, out, whole):
+    def is_whole(self, words: List[str], out: bytes, whole: bytes) -> bool:
         """Whether an output is the whole text. With more than one worker the journal may be another one, so it is
         replayed."""
         if words[-4:] != ["--show", "both", "--workers", "2"]:
@@ -64,14 +69,16 @@ class Refusals:
             and replayed.partition(b"\n\n")[2] == paid + b"\n"
         )
 
-    def job(self, words):
+    def job(self, words: List[str]) -> None:
+        """Refuses each allocation of a job in turn, alone and with all after it."""
         status, whole, told = self.runner.run(words, {**self.environment, "COUNT": "count"})
         if (status, told) != (0, b""):
             self.cases += 1
             self.fails(words, f"status {status} where nothing is refused: {told!r}")
             return
         count = int(pathlib.Path("count").read_text())
-        for lasting in ({}, {"LASTING": "1"}):
+        ways: List[Dict[str, str]] = [{}, {"LASTING": "1"}]
+        for lasting in ways:
             refused = without = 0
             for number in range(1, count + 1):
                 if self.ended:
@@ -101,7 +108,8 @@ class Refusals:
             )
 
 
-def main(program, bank, size, tries, *tasks):
+def main(program: str, bank: str, size: str, tries: str, *tasks: str) -> int:
+    """Tries the jobs of the tasks, and tells whether one was wrong."""
     refusals = Refusals(program)
     for number in (signal.SIGINT, signal.SIGTERM):
         signal.signal(number, refusals.end)

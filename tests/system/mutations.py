@@ -25,12 +25,12 @@ import zipfile
 ROOT = pathlib.Path(__file__).resolve().parents[2]
 sys.path.insert(0, str(ROOT / "python/src"))
 sys.path.append(str(ROOT / "tests"))
-from odd_names import ODD_FIELDS  # noqa: E402
+from odd_names import ODD_FIELDS
 
-from clearing_client import Network, errors, request, texts  # noqa: E402
-from clearing_client.results import Stress  # noqa: E402
-from clearing_tools import runner, texts as tool_texts  # noqa: E402
-from clearing_tools.evidence import audit, checking, layout, making, plain_files, shock, source  # noqa: E402
+from clearing_client import Network, errors, request, texts
+from clearing_client.results import Stress
+from clearing_tools import runner, texts as tool_texts
+from clearing_tools.evidence import audit, checking, layout, making, plain_files, shock, source
 
 TWELVE, HUB = ROOT / "examples/twelve-banks", ROOT / "examples/hub"
 REFUSALS = (errors.ClearingError, runner.ToolError, audit.RefusedError, shock.ScenarioError, plain_files.NoRoomError)

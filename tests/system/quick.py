@@ -7,11 +7,12 @@ where what it has has changed. Networks are those of model.py.
 import array
 import bisect
 import collections
+from typing import Any, Callable, Dict, Iterable, List, Optional, Sequence, Set, Tuple
 
 # At which place the unit after k units of a claim c comes: a unit of a smaller place before one of a greater. The
 # quotients are exact enough: two that are not equal are 10^-12 apart at least, since no claim is above a million, and
 # two that are equal round to one number.
-PLACE = {
+PLACE: Dict[str, Callable[[int, int], float]] = {
     "equal": lambda c, k: k,
     "losses": lambda c, k: k - c,
     "jefferson": lambda c, k: (k + 1) / c,
@@ -23,7 +24,7 @@ SORTED = 50_000
 # How many units of a claim come before a level, and the greatest level. No two units of a claim come between two
 # levels, since no claim is above a million.
 FINE = 10**12
-BEFORE = {
+BEFORE: Dict[str, Callable[[int, int], int]] = {
     "equal": lambda c, t: min(c, t),
     "losses": lambda c, t: max(0, c + t - 10**6),
     "jefferson": lambda c, t: min(c, max(0, t * c - 1) // FINE),
@@ -33,11 +34,12 @@ BEFORE = {
 HIGHEST = {"equal": 10**6, "losses": 10**6, "jefferson": 3 * FINE, "webster": 3 * FINE, "adams": 3 * FINE}
 
 
-def dealt(rule, claims, units):
+def dealt(rule: str, claims: Sequence[int], units: int) -> List[int]:
     """What each claim gets of so many units: those that come before the greatest level that they reach, and a unit
     each of what they leave, which come at that level."""
 
-    def before(level):
+    def before(level: int) -> List[int]:
+        """How many units of each claim come before a level."""
         return [BEFORE[rule](claim, level) for claim in claims]
 
     low, high = 0, HIGHEST[rule]
@@ -56,22 +58,25 @@ def dealt(rule, claims, units):
 class Class:
     """The debts of a bank in one class."""
 
-    def __init__(self, rule, places, claims):
-        self.rule, self.places, self.claims, self.sum, self.turns = rule, places, claims, sum(claims), None
+    def __init__(self, rule: str, places: List[int], claims: List[int]) -> None:
+        self.rule, self.places, self.claims, self.sum = rule, places, claims, sum(claims)
+        self.turns: Optional[List["array.array[int]"]] = None
 
-    def in_turn(self):
+    def in_turn(self) -> List["array.array[int]"]:
         """Of each debt how many units are given before each of its own."""
-        turns, place = [array.array("I") for _ in self.claims], PLACE[self.rule]
+        turns: List["array.array[int]"] = [array.array("I") for _ in self.claims]
+        place = PLACE[self.rule]
         units = sorted((place(claim, k), x) for x, claim in enumerate(self.claims) for k in range(claim))
         for before, (_, x) in enumerate(units):
             turns[x].append(before)
         return turns
 
-    def award(self, units):
+    def award(self, units: int) -> List[int]:
+        """What each debt gets of so many units for the class."""
         if units in (0, self.sum):
             return self.claims if units else [0] * len(self.claims)
         if self.rule == "order":
-            given = []
+            given: List[int] = []
             for claim in self.claims:
                 given.append(min(claim, units))
                 units -= given[-1]
@@ -85,14 +90,14 @@ class Class:
 class Division:
     """How a bank divides among all its debts."""
 
-    def __init__(self, rule, claims, classes):
-        groups = collections.defaultdict(list)
+    def __init__(self, rule: str, claims: Sequence[int], classes: Sequence[int]) -> None:
+        groups: Dict[int, List[int]] = collections.defaultdict(list)
         for x, cls in enumerate(classes):
             groups[cls].append(x)
         self.parts = [Class(rule, places, [claims[x] for x in places]) for _, places in sorted(groups.items())]
         self.last = 0, [0] * len(claims)
 
-    def share(self, units):
+    def share(self, units: int) -> List[int]:
         """What each debt gets, in the order of the file. It is not to be written into."""
         if units != self.last[0]:
             left, shares = units, [0] * len(self.last[1])
@@ -105,20 +110,23 @@ class Division:
         return self.last[1]
 
 
-def estates(net, paid):
+def estates(net: Any, paid: Iterable[int]) -> List[int]:
+    """What each bank has: its cash, and what others pay it."""
     has = [bank.cash for bank in net.banks]
     for debt, units in zip(net.debts, paid):
         has[debt.creditor] += units
     return has
 
 
-def divides(net, keep, i, has):
+def divides(net: Any, keep: int, i: int, has: int) -> int:
     """What a bank that has so much divides among its debts."""
-    due = net.owed[i] + net.banks[i].outside
-    return max(0, (has if has >= due else has * keep // 1000) - net.banks[i].outside)
+    outside: int = net.banks[i].outside
+    return max(0, (has if has >= net.owed[i] + outside else has * keep // 1000) - outside)
 
 
-def least(net, keep=1000, start=None, richer=None):
+def least(
+    net: Any, keep: int = 1000, start: Optional[Sequence[int]] = None, richer: Optional[Iterable[int]] = None
+) -> List[int]:
     """The least payments, by visits of banks that may pay more. Where payments to start with clear the network but for
     some banks that have become richer, only these are visited first."""
     paid = list(start) if start else [0] * len(net.debts)
@@ -140,11 +148,12 @@ def least(net, keep=1000, start=None, richer=None):
     return paid
 
 
-def falling(net, keep=1000):
+def falling(net: Any, keep: int = 1000) -> Tuple[List[int], List[int]]:
     """The greatest payments, and of each bank the round in which it is short first, or 0: the rounds go down from all
     debts paid."""
     paid = [debt.claim for debt in net.debts]
-    has, waves, changed, rounds = estates(net, paid), [0] * len(net.banks), range(len(net.banks)), 0
+    has, waves, rounds = estates(net, paid), [0] * len(net.banks), 0
+    changed: Set[int] = set(range(len(net.banks)))
     while changed:
         rounds += 1
         for i in changed:
@@ -163,7 +172,7 @@ def falling(net, keep=1000):
     return paid, waves
 
 
-def touched(net, paid, others):
+def touched(net: Any, paid: Sequence[int], others: Sequence[int]) -> Set[int]:
     """The banks that pay or receive other sums in the one list than in the other."""
     changed = [debt for debt, units, other in zip(net.debts, paid, others) if units != other]
     return {debt.debtor for debt in changed} | {debt.creditor for debt in changed}

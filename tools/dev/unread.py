@@ -1,6 +1,9 @@
-"""What the packages for Python have and nothing reads, told by the types of values, as mypy finds them.
+#!/usr/bin/env python3
+"""Tells what the packages for Python have and nothing reads, by the types of values, as mypy finds them.
 
-    unread.py ROOT    a line for each field and each default of the packages of a checkout that is of no use
+    tools/dev/unread.py [ROOT]    the packages of a checkout; of this one where none is named
+
+Out: a line for each field and each default that is of no use.
 
 A field is what a NamedTuple, a TypedDict, a dataclass or a Protocol has, and what an object keeps under a name. It is
 read where its name stands behind a value of its class, or of one above or below it, and where a tuple is taken apart.
@@ -8,8 +11,12 @@ Another class's field of the same name is another field. A default is that of a 
 where no call passes anything in its place it is no choice.
 
 The name alone counts where nothing has a type: in the templates of the report, and within a room of the packages in
-functions of a type variable that is one of some types, of whose bodies mypy keeps no types. It wants mypy.
+functions of a type variable that is one of some types, of whose bodies mypy keeps no types.
+
+Wants a python3 with mypy. Ends with 0, with 1 and a message where mypy cannot read the sources, and with 2 where the
+words are not understood.
 """
+import argparse
 import ast
 import io
 import os
@@ -20,6 +27,7 @@ from typing import Dict, Iterator, List, NamedTuple, Optional, Sequence, Set, Tu
 
 from mypy import build, maptype, modulefinder, nodes, options, types
 from mypy.config_parser import parse_config_file
+from mypy.errors import CompileError
 from mypy.traverser import TraverserVisitor
 
 Member = Tuple[str, str]
@@ -28,7 +36,8 @@ Member = Tuple[str, str]
 WHOLE = {"_asdict", "_fields"}
 OF_RECORDS = {"asdict", "astuple", "fields"}
 OF_TUPLES = {"list", "map", "max", "min", "set", "sorted", "sum", "tuple", "zip"}
-SETTINGS = pathlib.Path(__file__).resolve().parents[1] / "python/pyproject.toml"
+HERE = pathlib.Path(__file__).resolve().parents[2]
+SETTINGS = HERE / "python/pyproject.toml"
 
 
 class Declared(NamedTuple):
@@ -443,5 +452,16 @@ def unread_in(root: pathlib.Path) -> Iterator[str]:
             yield f"{name}({word})"
 
 
+def main() -> None:
+    """Prints what is of no use."""
+    parser = argparse.ArgumentParser(description=__doc__, formatter_class=argparse.RawDescriptionHelpFormatter)
+    parser.add_argument("root", metavar="ROOT", nargs="?", type=pathlib.Path, default=HERE)
+    root = parser.parse_args().root.resolve()
+    try:
+        print("".join(f"{line}\n" for line in unread_in(root)), end="")
+    except CompileError as fault:
+        sys.exit("unread.py: " + "; ".join(fault.messages))
+
+
 if __name__ == "__main__":
-    print("".join(f"{line}\n" for line in unread_in(pathlib.Path(sys.argv[1]).resolve())), end="")
+    main()
