@@ -237,6 +237,12 @@ class Standing(Case):
     def test_half_of_units_is_the_nearest_and_of_two_the_even_one(self):
         self.assertEqual([half(units) for units in (*range(8), 2**60 + 2)], [0, 0, 1, 2, 2, 2, 3, 4, 2**59 + 1])
 
+    def test_one_class_is_tried_as_far_as_two_debts_are_one_within_the_limits(self):
+        """Debts of two classes that come to a million units are one debt; of a unit more they are none."""
+        for claim, is_tried in ((500_000, True), (500_001, False)):
+            net = cc.Network([("A", 1, "order"), ("B", 0, "order")], [("A", "B", 1, 500_000), ("A", "B", 2, claim)])
+            self.assertEqual("one class" in cc.stands(net).variations, is_tried, claim)
+
     def test_a_unit_half_as_large_is_left_out_beyond_the_limits(self):
         large = cc.Network([("A", 1, "order"), ("B", 0, "order")], [("A", "B", 1, 600_000)])
         self.assertNotIn("unit /2", cc.stands(large).variations)
