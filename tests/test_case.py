@@ -358,6 +358,14 @@ class Writing(Folders):
             read.write(self.place, replace=True)
         self.assertEqual(files(self.place), there)
 
+    def test_copies_of_sheets_keep_their_order_however_many_there_are(self):
+        sheets = {f"sheet {number}.csv": b"%d" % number for number in (3, 12, 1, 11, 2, 10, 4, 9, 5, 8, 6, 7)}
+        made = cc.Case(two_banks())
+        made.write(self.place, sources=sheets)
+        read = cc.Case.read(self.place)
+        self.assertEqual(list(read.sheets().items()), list(sheets.items()))
+        self.assertEqual(read.files(), made.files(sheets))
+
     def test_a_sheet_is_looked_at_whatever_its_length(self):
         """It may be longer than any file of a network."""
         cc.Case(two_banks()).write(self.place, sources={"a.csv": b"x" * 3000})

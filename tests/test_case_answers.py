@@ -54,6 +54,23 @@ class Compared(Case):
         with self.assertRaisesRegex(cc.CaseError, "in EUR and USD"):
             cc.compare(before, cc.Case(network(), currency="USD"))
 
+    def test_banks_stand_as_in_the_first_case_and_behind_them_those_that_came(self):
+        """In the order of the files, whatever their letters, and whether they are equal but for capitals."""
+        before, after = (
+            cc.Network(dict.fromkeys(names, 1), {}) for names in (["Zeta", "alma", "Mu"], ["Nu", "Alma", "Mu", "Zeta"])
+        )
+        done = cc.compare(before, after)
+        self.assertEqual(
+            [(bank.bank, bank.change) for bank in done.banks],
+            [("Zeta", ""), ("alma", "went"), ("Mu", ""), ("Nu", "came"), ("Alma", "came")],
+        )
+
+    def test_what_a_unit_is_worth_counts_where_no_currency_is_said(self):
+        bank = cc.compare(cc.Case(network(), unit="2"), cc.Case(network(), unit="0.5")).banks[0]
+        self.assertEqual(
+            (bank.paid_before, bank.paid_after, bank.more("paid")), (Decimal(14), Decimal("3.5"), Decimal("-10.5"))
+        )
+
     def test_a_bank_that_is_saved_and_one_that_has_another_label(self):
         self.assertEqual(
             [bank.change for bank in cc.compare(network([("A", 0, "order"), *BANKS[1:]]), network()).banks][:2],
@@ -102,6 +119,37 @@ class Compared(Case):
         share = cc.ensemble([one_unit(), one_unit(9)]).shares
         self.assertEqual([(one.bank, one.unsteady) for one in share], [("A", 0), ("B", 1), ("C", 1)])
         self.assertEqual(share[1].sentence("Beta"), "Beta defaults in 0 of 2 networks; one unit decides in 1")
+
+    def compared(self, before: cc.Case, after: cc.Case) -> List[Dict[str, str]]:
+        """The records of the table of two cases; the page is left in the folder."""
+        places = [self.folder / name for name in ("before", "after")]
+        for case, place in zip((before, after), places):
+            case.write(place, replace=True)
+        told = self.made("clearing-case", "compare", *places, "--page", self.folder / "page.html")
+        return list(csv.DictReader(io.StringIO(told)))
+
+    def test_a_bank_that_one_unit_decides_in_one_of_two_cases_is_marked(self):
+        for units in ((0, 9), (9, 0)):
+            rows = self.compared(*(cc.Case(one_unit(more)) for more in units))
+            self.assertEqual([row["note"] for row in rows], ["", "one unit decides", "one unit decides"], units)
+
+    def test_amounts_beyond_2_to_the_53rd_are_exact(self):
+        rich = cc.Network([("A", 10**12 - 1, "order"), ("B", 0, "order")], [("A", "B", 1, 1)])
+        less = rich.with_cash({"A": 10**12 - 2})
+        row = self.compared(cc.Case(rich, unit="10001"), cc.Case(less, unit="10001"))[0]
+        kept = [str(10001 * (10**12 - 2)), str(10001 * (10**12 - 3)), "-10001"]
+        self.assertEqual([row[f"kept_{when}"] for when in ("before", "after", "more")], kept)
+        page = (self.folder / "page.html").read_text()
+        self.assertIn(f"<td class=amount>{10001 * (10**12 - 2):,}</td>", page)
+
+    def test_ten_banks_are_named_and_of_more_the_others_counted(self):
+        for count, more in ((9, ""), (10, ""), (11, " and 1 more"), (31, " and 21 more")):
+            names = [f"B{at}" for at in range(count)]
+            debts = [(name, "C", 1, 5) for name in names]
+            nets = [cc.Network({**dict.fromkeys(names, cash), "C": 9}, debts) for cash in (5, 4)]
+            self.compared(*map(cc.Case, nets))
+            falls = f"<li>Falls: {', '.join(names[:10])}{more}</li>"
+            self.assertIn(falls, (self.folder / "page.html").read_text())
 
     @needs_packages("openpyxl")
     def test_two_cases_as_a_workbook(self):
