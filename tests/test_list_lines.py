@@ -80,6 +80,21 @@ class Which(ListCase):
         self.take("debtor,creditor,class,amount\nA,B,1,1\nA,B,2,2\n")
         self.assertEqual(self.debts.read_text(), "debtor,creditor,class,claim\nA,B,1,1\nA,B,2,2\n")
 
+    def test_a_thousand_lines_of_one_debt_are_summed_to_the_last(self):
+        """The last one has no line end."""
+        lines = "\n".join(f"{number},A,B,{number}" for number in range(1, 1001))
+        told = self.take(f"id,debtor,creditor,amount\n{lines}", "--sum", "--ignore", "id")
+        self.assertIn("lines summed: 1,000; into 1 debt\ndebts in the sheet: 1; 500,500 in all\n", told)
+        self.assertEqual(self.debts.read_text(), "debtor,creditor,class,claim\nA,B,1,500500\n")
+
+    def test_names_equal_but_for_capitals_are_banks_each(self):
+        text = "debtor,creditor,amount\nAsh,B,1\nASH,B,2\nash,B,4\nB,ash,8\nB,Ash,16\nash,ASH,32\n"
+        self.take(text, table="bank,cash\nash,1\nB,2\nASH,3\nAsh,4\n")
+        self.check(
+            "name,cash,rule\nash,1,webster\nB,2,webster\nASH,3,webster\nAsh,4,webster\n",
+            "debtor,creditor,class,claim\nAsh,B,1,1\nASH,B,1,2\nash,B,1,4\nB,ash,1,8\nB,Ash,1,16\nash,ASH,1,32\n",
+        )
+
 
 class Totals(ListCase):
     """Lines of totals, in the list and in the table."""

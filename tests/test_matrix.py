@@ -39,6 +39,16 @@ class TwoFiles(ImportCase):
             "debtor,creditor,class,claim\nA,B,1,12\nA,C,1,8\nB,A,1,4\nB,C,1,17\nC,A,1,6\nC,B,1,2\n",
         )
 
+    def test_names_equal_but_for_capitals_are_banks_each(self):
+        """Also where what one of them owes stands below 0 in the line of the other."""
+        sheet = self.file("m.csv", ",Ash,B,ASH,cash\nAsh,0,1,2,3\nB,4,0,-8,5\nASH,16,32,0,6\n")
+        told = self.told("clearing-from-matrix", sheet, "--turn", "negative", *self.files)
+        self.assertIn("debts summed, as one was turned round: 2; into 1\n", told)
+        self.check(
+            "name,cash,rule\nAsh,3,webster\nB,5,webster\nASH,6,webster\n",
+            "debtor,creditor,class,claim\nAsh,B,1,1\nAsh,ASH,1,2\nB,Ash,1,4\nASH,B,1,40\nASH,Ash,1,16\n",
+        )
+
     def test_the_input_stays_and_both_files_are_written_or_none(self):
         sheet = self.file("same.csv", MATRIX)
         table = self.file("table.csv", "bank,ea,el\nA,3,0\nB,1,2\nC,4,1\n")
