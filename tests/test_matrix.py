@@ -193,6 +193,17 @@ class Columns(ImportCase):
             self.check("name,cash,rule\nA,3,webster\nB,4,webster\n", "debtor,creditor,class,claim\nA,B,1,6\nB,A,1,2\n")
             self.begin_anew()
 
+    def test_what_is_owed_outside_in_several_columns_adds_up(self):
+        columns = {"deposits": 1, "bonds": 2, "loans": 4, "leases": 8, "else": 16}
+        text = f",A,B,cash,{','.join(columns)}\nA,0,6,3,{','.join(map(str, columns.values()))}\nB,2,0,4,0,,0,32,\n"
+        words = [word for column in columns for word in ("--outside", column)]
+        told = self.told("clearing-from-matrix", self.file("m.csv", text), *words, *self.files)
+        self.assertIn("owed outside made: 2; 63 in all; in units of 1: 63\n", told)
+        self.check(
+            "name,cash,rule,outside\nA,3,webster,31\nB,4,webster,32\n",
+            "debtor,creditor,class,claim\nA,B,1,6\nB,A,1,2\n",
+        )
+
     def test_banks_of_the_table_alone_are_kept(self):
         matrix = self.file("m.csv", ",B,C\nA,6,4\nB,0,8\n")
         table = self.file("t.csv", "bank,cash\nD,9\nA,3\nB,4\nC,5\n")
