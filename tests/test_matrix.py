@@ -204,6 +204,15 @@ class Columns(ImportCase):
             "debtor,creditor,class,claim\nA,B,1,6\nB,A,1,2\n",
         )
 
+    def test_a_group_has_the_cash_of_all_its_banks(self):
+        """Also where it is more than a binary fraction has exactly."""
+        cash = [100_003 * units for units in (3 * 10**11, 3 * 10**11 + 1, 2 * 10**11 + 2)]
+        lines = "".join(f"{name},0,0,0,{amount}\n" for name, amount in zip("ABC", cash))
+        groups = self.file("g.csv", "bank,group\nA,G\nB,G\nC,G\n")
+        words = ["--groups", groups, "--unit", "100003", *self.files]
+        self.told("clearing-from-matrix", self.file("m.csv", f",A,B,C,cash\n{lines}"), *words)
+        self.check("name,cash,rule\nG,800000000003,webster\n", "debtor,creditor,class,claim\n")
+
     def test_banks_of_the_table_alone_are_kept(self):
         matrix = self.file("m.csv", ",B,C\nA,6,4\nB,0,8\n")
         table = self.file("t.csv", "bank,cash\nD,9\nA,3\nB,4\nC,5\n")
