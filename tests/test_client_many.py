@@ -6,6 +6,7 @@ import pathlib
 import subprocess
 import sys
 import time
+import types
 import unittest
 from typing import Any, Iterator, List, Tuple
 from unittest import mock
@@ -135,6 +136,13 @@ class Sums(Case):
             self.assertEqual(left.banks.column("bank"), net.banks.column("name"))
             self.assertIs(left.network, net)
             self.assertTrue(all(one.cash == one.outside_paid + one.equity for one in left.scenarios))
+
+    def test_counts_are_those_of_all_runs_of_a_hundred(self):
+        net, scenarios = network_of(TWELVE), Scenarios.cuts(range(100, 1001, 3))
+        (left,), outcomes = cc.map_outcomes([net], scenarios), list(cc.map_stress([net], scenarios))
+        self.assertEqual([one.number for one in outcomes], [*range(1, 302)])
+        wanted = sums_of(types.SimpleNamespace(scenarios=outcomes))
+        self.assertEqual(([tuple(one) for one in left.scenarios], [tuple(one)[1:] for one in left.banks]), wanted)
 
     def test_worked_sums(self):
         scenarios = [
