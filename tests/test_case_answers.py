@@ -11,6 +11,7 @@ import common
 from common import TWELVE, Case, needs_packages
 
 import clearing_client as cc
+from clearing_client.ensemble import five_of
 from clearing_client.steady import half, other_units, unsteady, within_limits
 
 BANKS = [("A", 7, "webster"), ("B", 1, "webster"), ("C", 0, "webster"), ("D", 9, "webster")]
@@ -177,6 +178,15 @@ class Many(Case):
         self.assertEqual({one.task for one in done.spreads}, {"defaults", "breaking", "rescues", "impact"})
         added = next(one for one in done.spreads if (one.bank, one.number) == ("A", "added"))
         self.assertEqual(added[4:], (0, 0, 0, 1, 2))
+
+    def test_a_quartile_is_the_least_number_that_so_many_are_not_above(self):
+        for count in (1, 2, 3, 4, 5, 8, 10, 31, 200):
+            numbers = [Decimal(number * 7 % 11) for number in range(count)]
+            least, *quartiles, greatest = five_of(numbers)
+            self.assertEqual((least, greatest), (min(numbers), max(numbers)))
+            for part, quartile in enumerate(quartiles, 1):
+                are_enough = [one for one in numbers if 4 * sum(other <= one for other in numbers) >= part * count]
+                self.assertEqual(quartile, min(are_enough), (count, part))
 
     def test_a_bank_of_some_networks_is_counted_in_these(self):
         done = cc.ensemble([network(), network(BANKS[:3], DEBTS[:2])])

@@ -1,6 +1,7 @@
 """Many networks and scenarios side by side: results as they come, by processes of this machine or by an executor of
 others."""
 import concurrent.futures
+import itertools
 import os
 import pathlib
 import subprocess
@@ -63,12 +64,13 @@ class SideBySide(Case):
         left = list(cc.map_stress([net], Scenarios.cuts(range(250))))
         self.assertEqual([one.number for one in left], list(range(1, 251)))
         self.assertEqual([one.name for one in left], [f"cut {cut}" for cut in range(250)])
-        for call in (cc.map_stress, cc.map_outcomes):
+        for call, before in itertools.product((cc.map_stress, cc.map_outcomes), (0, 99, 100, 150, 250)):
             with self.assertRaises(cc.RefusedError) as caught:
-                list(call([net], [*Scenarios.cuts(range(150)), Scenario("x", 1001)]))
+                list(call([net], [*Scenarios.cuts(range(before)), Scenario("x", 1001)]))
             fault = caught.exception
             self.assertEqual(
-                (fault.file, fault.row, fault.kind, fault.record), ("scenarios", 151, "limit", Scenario("x", 1001))
+                (fault.file, fault.row, fault.kind, fault.record),
+                ("scenarios", before + 1, "limit", Scenario("x", 1001)),
             )
 
     def test_a_fault_comes_in_its_place_and_ends_it(self):
