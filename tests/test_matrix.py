@@ -213,6 +213,16 @@ class Columns(ImportCase):
         self.told("clearing-from-matrix", self.file("m.csv", f",A,B,C,cash\n{lines}"), *words)
         self.check("name,cash,rule\nG,800000000003,webster\n", "debtor,creditor,class,claim\n")
 
+    def test_groups_equal_but_for_capitals_are_two(self):
+        sheet = self.file("m.csv", ",A,B,C,cash\nA,0,1,2,3\nB,4,0,8,5\nC,16,32,0,6\n")
+        groups = self.file("g.csv", "bank,group\nA,North\nB,NORTH\nC,North\n")
+        told = self.told("clearing-from-matrix", sheet, "--groups", groups, *self.files)
+        self.assertIn("groups: 2; of 3 banks\ndebts within groups, left out: 2; 18 in all\n", told)
+        self.check(
+            "name,cash,rule\nNorth,9,webster\nNORTH,5,webster\n",
+            "debtor,creditor,class,claim\nNorth,NORTH,1,33\nNORTH,North,1,12\n",
+        )
+
     def test_banks_of_the_table_alone_are_kept(self):
         matrix = self.file("m.csv", ",B,C\nA,6,4\nB,0,8\n")
         table = self.file("t.csv", "bank,cash\nD,9\nA,3\nB,4\nC,5\n")
