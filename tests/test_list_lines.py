@@ -320,6 +320,19 @@ class Meaning(ListCase):
         )
         self.assertEqual(labels.read_text(), 'code,name\nX1,"Ash, Inc."\nX2,Birch\n')
 
+    def test_many_names_of_80_letters_with_one_beginning_get_a_code_each(self):
+        """Each code is a name of 64 bytes at most, however many of them are counted on."""
+        names, labels = [f"{'N' * 77}{number:03}" for number in range(120)], self.file("labels.csv")
+        table = "".join(f"{name},{number}\n" for number, name in enumerate(names))
+        text = f"debtor,creditor,amount\n{names[0]},{names[-1]},5\n"
+        self.take(text, "--label", labels, table=f"bank,cash\n{table}")
+        banks = [line.split(",") for line in self.printed("check", *self.files).split("\n\n")[1].splitlines()[1:]]
+        self.assertEqual([int(cash) for _, cash, _ in banks], list(range(120)))
+        self.assertEqual(len({code for code, _, _ in banks}), 120)
+        self.assertEqual({len(code) for code, _, _ in banks}, {64})
+        told = [line.split(",") for line in labels.read_text().splitlines()[1:]]
+        self.assertEqual(told, [[code, name] for (code, _, _), name in zip(banks, names)])
+
 
 class Telling(ListCase):
     """What is told of lines, each thing once."""
