@@ -9,7 +9,7 @@ import sys
 import tempfile
 import types
 import unittest
-from typing import Any, List, Tuple
+from typing import Any, Dict, List, Tuple
 
 from common import PACKAGES, PROGRAM, needs
 from compared import model
@@ -201,13 +201,8 @@ class Accounts(unittest.TestCase):
                 return True
         return False
 
-    @needs("node")
-    def test_the_lines_of_the_page_add_up(self):
-        """Also those of the debtors that stand together, and in the state that is held against."""
-        pairs = []
-        for asked in self.asked:
-            for bank in range(len(asked.net.banks)):
-                pairs.append([account_of(asked.base, found, bank) for found in (asked.found, asked.before)])
+    def page_lines(self, pairs: List[Tuple[Any, Any]]) -> List[List[Dict[str, Any]]]:
+        """The lines of the page for each pair of accounts, of a state and of that held against it."""
         given = json.dumps([[account.view() for account in pair] for pair in pairs])
         folder = tempfile.TemporaryDirectory()
         self.addCleanup(folder.cleanup)
@@ -217,18 +212,45 @@ class Accounts(unittest.TestCase):
         words = ["node", "--input-type=module", "-e", script]
         done = subprocess.run(words, input=given, capture_output=True, encoding="utf-8")
         self.assertEqual((done.returncode, done.stderr), (0, ""))
-        found, together = json.loads(done.stdout), 0
+        found: List[List[Dict[str, Any]]] = json.loads(done.stdout)
         self.assertEqual(len(found), len(pairs))
-        for (now, before), lines in zip(pairs, found):
-            self.assertEqual(sum(line["is"] for line in lines), now.left)
-            self.assertEqual(sum(line["was"] for line in lines), before.left)
-            for line in lines:
-                inner = line.get("rest") or []
-                together += bool(inner)
-                if inner:
-                    sums = [sum(one[when] for one in inner) for when in ("was", "is")]
-                    self.assertEqual(sums, [line["was"], line["is"]])
+        return found
+
+    def assert_add_up(self, pair: Tuple[Any, Any], lines: List[Dict[str, Any]]) -> None:
+        """The lines of the page come to what is left in both states, and those that stand together to theirs."""
+        for when, account in zip(("is", "was"), pair):
+            self.assertEqual(sum(line[when] for line in lines), account.left)
+        for line in lines:
+            if line.get("rest"):
+                sums = [sum(one[when] for one in line["rest"]) for when in ("was", "is")]
+                self.assertEqual(sums, [line["was"], line["is"]])
+
+    @needs("node")
+    def test_the_lines_of_the_page_add_up(self):
+        """Also those of the debtors that stand together, and in the state that is held against."""
+        pairs = [
+            (account_of(asked.base, asked.found, bank), account_of(asked.base, asked.before, bank))
+            for asked in self.asked
+            for bank in range(len(asked.net.banks))
+        ]
+        together = 0
+        for pair, lines in zip(pairs, self.page_lines(pairs)):
+            self.assert_add_up(pair, lines)
+            together += any(line.get("rest") for line in lines)
         self.assertGreater(together, 20)
+
+    @needs("node")
+    def test_the_lines_of_999_debtors_and_of_the_largest_amounts_add_up(self):
+        """Of a bank to which all others of the standard limits owe, and that has, lost and owes as much as one may."""
+        unpaid = [accounts.Line(debtor, 20_000, debtor % 7, False) for debtor in range(1, 1000)]
+        gone = sum(line.claim - line.paid for line in unpaid)
+        whole, loss, outside, lost = 10**12 + 999 * 20_000, 10**12 - 1, 10**11 - 1, 10**9 + 1
+        now = accounts.Account(whole, loss, unpaid, outside, lost, whole - loss - gone - outside - lost)
+        before = accounts.Account(whole, 0, unpaid[:1], outside, 0, whole - 20_000 + unpaid[0].paid - outside)
+        (lines,) = self.page_lines([(now, before)])
+        self.assert_add_up((now, before), lines)
+        # Five have a line of their own, and the others stand together.
+        self.assertEqual([len(line["rest"]) for line in lines if line.get("rest")], [994])
 
 
 if __name__ == "__main__":

@@ -16,6 +16,8 @@ AMOUNTS = [
     *[("1\u00a0234", 1234), ("1\u202f234\u202f567", 1234567), ("1,00,000", 100000), ("12,34,567.50", "1234567.5")],
     *[("1e3", 1000), ("1,5E+06", 1500000), ("2.345e-3", "0.002345"), ("12345678901234567890", 12345678901234567890)],
     *[("€ 1.234,50", "1234.5"), ("1,234.50 EUR", "1234.5"), ("CHF1'000", 1000), ("US$ 7", 7), ("$7", 7)],
+    *[("9,007,199,254,740,993", 2**53 + 1), ("9 007 199 254 740 993,01", "9007199254740993.01")],
+    *[("1234567890123.4567890123456789", "1234567890123.4567890123456789"), ("9007199254740993e2", 100 * (2**53 + 1))],
     ("\u00a07\u00a0", 7),
 ]
 NO_AMOUNTS = [
@@ -84,6 +86,16 @@ class Units(ImportCase):
             *self.files,
         )
         self.check("name,cash,rule\nA,2,webster\nB,4,webster\n", "debtor,creditor,class,claim\nA,B,1,2\n")
+
+    def test_the_largest_amounts_go_to_the_nearest_unit_too(self):
+        """A half and a little more goes up, a half to the even unit, and what is told of them is exact."""
+        cash = ["999999999998.50001", "999999999998.5", "999999999997.49999", "999999999997.5"]
+        units = [999_999_999_999, 999_999_999_998, 999_999_999_997, 999_999_999_998]
+        lines = "".join(f"{name},0,0,0,0,{amount}\n" for name, amount in zip("ABCD", cash))
+        told = self.told("clearing-from-matrix", self.file("m.csv", f",A,B,C,D,cash\n{lines}"), "--round", *self.files)
+        banks = "".join(f"{name},{amount},webster\n" for name, amount in zip("ABCD", units))
+        self.check(f"name,cash,rule\n{banks}", "debtor,creditor,class,claim\n")
+        self.assertIn("amounts rounded: 4; by 1.99998 together, the largest by 0.5\n", told)
 
     def test_what_is_rounded_is_told(self):
         sheet = self.file("m.csv", ",A,B,cash\nA,0,2.5,1.5\nB,0.4,0,3.5\n")

@@ -1,4 +1,5 @@
 """A case: a folder that keeps a network and what belongs to it, and what is refused of one."""
+import hashlib
 import json
 import os
 import pathlib
@@ -92,11 +93,36 @@ class Reading(Folders):
         os.unlink(self.place / "labels.csv")
         self.assertIn("labels.csv is described, and is not there", cc.Case.read(self.place).notes)
 
+    def test_the_last_byte_of_a_long_file_is_looked_at(self):
+        """A checksum is one of the whole file, however many blocks it is read in."""
+        text = b"# " + b"x" * (3 << 20) + b"\n"
+        self.written(scenarios=text)
+        document = json.loads((self.place / "datapackage.json").read_text(encoding="utf-8"))
+        described = {resource["path"]: resource["hash"] for resource in document["resources"]}
+        self.assertEqual(described["scenarios.toml"], f"sha256:{hashlib.sha256(text).hexdigest()}")
+        self.assertEqual(cc.Case.read(self.place).notes, ())
+        (self.place / "scenarios.toml").write_bytes(text[:-2] + b"y\n")
+        self.assertEqual(cc.Case.read(self.place).notes, ("scenarios.toml is not the file that was described",))
+
     def test_a_file_that_nobody_described_is_told(self):
         self.written()
         (self.place / "labels.csv").write_text("bank,short,full,group,country\nA,,Alpha,,\n")
         read = cc.Case.read(self.place)
         self.assertEqual((read.notes, read.labels["A"].full), (("labels.csv is not described",), "Alpha"))
+
+    def test_a_label_is_kept_whole_however_long_it_is(self):
+        for count in (64, 65, 80, 1000):
+            text = ("Ärzte- und Apothekerbank, e. G. " * count)[:count].strip()
+            label = cc.Label("A", *(f"{at}{text}" for at in range(4)))
+            cc.Case(two_banks(), labels=[label]).write(self.folder / str(count))
+            self.assertEqual(cc.Case.read(self.folder / str(count)).label("A"), label)
+
+    def test_names_equal_but_for_capitals_have_a_label_each(self):
+        full = {"Ash": "Ash Bank of the North", "ASH": "ASH Holding", "ash": "ash, a cooperative"}
+        labels = [cc.Label(name, full=long) for name, long in full.items()]
+        cc.Case(cc.Network(dict.fromkeys(full, 1), {}), labels=labels).write(self.place)
+        read = cc.Case.read(self.place)
+        self.assertEqual({name: read.label(name).full for name in (*full, "aSH")}, {**full, "aSH": ""})
 
     def test_keys_of_others_are_kept_and_unknown_ones_of_ours_told(self):
         self.written()
@@ -331,6 +357,14 @@ class Writing(Folders):
         with self.assertRaisesRegex(cc.UnreadableError, "not there any more"):
             read.write(self.place, replace=True)
         self.assertEqual(files(self.place), there)
+
+    def test_copies_of_sheets_keep_their_order_however_many_there_are(self):
+        sheets = {f"sheet {number}.csv": b"%d" % number for number in (3, 12, 1, 11, 2, 10, 4, 9, 5, 8, 6, 7)}
+        made = cc.Case(two_banks())
+        made.write(self.place, sources=sheets)
+        read = cc.Case.read(self.place)
+        self.assertEqual(list(read.sheets().items()), list(sheets.items()))
+        self.assertEqual(read.files(), made.files(sheets))
 
     def test_a_sheet_is_looked_at_whatever_its_length(self):
         """It may be longer than any file of a network."""

@@ -11,6 +11,7 @@ import common
 from common import TWELVE, Case, needs_packages
 
 import clearing_client as cc
+from clearing_client.ensemble import five_of
 from clearing_client.steady import half, other_units, unsteady, within_limits
 
 BANKS = [("A", 7, "webster"), ("B", 1, "webster"), ("C", 0, "webster"), ("D", 9, "webster")]
@@ -53,6 +54,23 @@ class Compared(Case):
         self.assertEqual(done.of("falls"), ["A", "B"])
         with self.assertRaisesRegex(cc.CaseError, "in EUR and USD"):
             cc.compare(before, cc.Case(network(), currency="USD"))
+
+    def test_banks_stand_as_in_the_first_case_and_behind_them_those_that_came(self):
+        """In the order of the files, whatever their letters, and whether they are equal but for capitals."""
+        before, after = (
+            cc.Network(dict.fromkeys(names, 1), {}) for names in (["Zeta", "alma", "Mu"], ["Nu", "Alma", "Mu", "Zeta"])
+        )
+        done = cc.compare(before, after)
+        self.assertEqual(
+            [(bank.bank, bank.change) for bank in done.banks],
+            [("Zeta", ""), ("alma", "went"), ("Mu", ""), ("Nu", "came"), ("Alma", "came")],
+        )
+
+    def test_what_a_unit_is_worth_counts_where_no_currency_is_said(self):
+        bank = cc.compare(cc.Case(network(), unit="2"), cc.Case(network(), unit="0.5")).banks[0]
+        self.assertEqual(
+            (bank.paid_before, bank.paid_after, bank.more("paid")), (Decimal(14), Decimal("3.5"), Decimal("-10.5"))
+        )
 
     def test_a_bank_that_is_saved_and_one_that_has_another_label(self):
         self.assertEqual(
@@ -103,6 +121,37 @@ class Compared(Case):
         self.assertEqual([(one.bank, one.unsteady) for one in share], [("A", 0), ("B", 1), ("C", 1)])
         self.assertEqual(share[1].sentence("Beta"), "Beta defaults in 0 of 2 networks; one unit decides in 1")
 
+    def compared(self, before: cc.Case, after: cc.Case) -> List[Dict[str, str]]:
+        """The records of the table of two cases; the page is left in the folder."""
+        places = [self.folder / name for name in ("before", "after")]
+        for case, place in zip((before, after), places):
+            case.write(place, replace=True)
+        told = self.made("clearing-case", "compare", *places, "--page", self.folder / "page.html")
+        return list(csv.DictReader(io.StringIO(told)))
+
+    def test_a_bank_that_one_unit_decides_in_one_of_two_cases_is_marked(self):
+        for units in ((0, 9), (9, 0)):
+            rows = self.compared(*(cc.Case(one_unit(more)) for more in units))
+            self.assertEqual([row["note"] for row in rows], ["", "one unit decides", "one unit decides"], units)
+
+    def test_amounts_beyond_2_to_the_53rd_are_exact(self):
+        rich = cc.Network([("A", 10**12 - 1, "order"), ("B", 0, "order")], [("A", "B", 1, 1)])
+        less = rich.with_cash({"A": 10**12 - 2})
+        row = self.compared(cc.Case(rich, unit="10001"), cc.Case(less, unit="10001"))[0]
+        kept = [str(10001 * (10**12 - 2)), str(10001 * (10**12 - 3)), "-10001"]
+        self.assertEqual([row[f"kept_{when}"] for when in ("before", "after", "more")], kept)
+        page = (self.folder / "page.html").read_text()
+        self.assertIn(f"<td class=amount>{10001 * (10**12 - 2):,}</td>", page)
+
+    def test_ten_banks_are_named_and_of_more_the_others_counted(self):
+        for count, more in ((9, ""), (10, ""), (11, " and 1 more"), (31, " and 21 more")):
+            names = [f"B{at}" for at in range(count)]
+            debts = [(name, "C", 1, 5) for name in names]
+            nets = [cc.Network({**dict.fromkeys(names, cash), "C": 9}, debts) for cash in (5, 4)]
+            self.compared(*map(cc.Case, nets))
+            falls = f"<li>Falls: {', '.join(names[:10])}{more}</li>"
+            self.assertIn(falls, (self.folder / "page.html").read_text())
+
     @needs_packages("openpyxl")
     def test_two_cases_as_a_workbook(self):
         import openpyxl
@@ -129,6 +178,15 @@ class Many(Case):
         self.assertEqual({one.task for one in done.spreads}, {"defaults", "breaking", "rescues", "impact"})
         added = next(one for one in done.spreads if (one.bank, one.number) == ("A", "added"))
         self.assertEqual(added[4:], (0, 0, 0, 1, 2))
+
+    def test_a_quartile_is_the_least_number_that_so_many_are_not_above(self):
+        for count in (1, 2, 3, 4, 5, 8, 10, 31, 200):
+            numbers = [Decimal(number * 7 % 11) for number in range(count)]
+            least, *quartiles, greatest = five_of(numbers)
+            self.assertEqual((least, greatest), (min(numbers), max(numbers)))
+            for part, quartile in enumerate(quartiles, 1):
+                are_enough = [one for one in numbers if 4 * sum(other <= one for other in numbers) >= part * count]
+                self.assertEqual(quartile, min(are_enough), (count, part))
 
     def test_a_bank_of_some_networks_is_counted_in_these(self):
         done = cc.ensemble([network(), network(BANKS[:3], DEBTS[:2])])
@@ -236,6 +294,12 @@ class Standing(Case):
 
     def test_half_of_units_is_the_nearest_and_of_two_the_even_one(self):
         self.assertEqual([half(units) for units in (*range(8), 2**60 + 2)], [0, 0, 1, 2, 2, 2, 3, 4, 2**59 + 1])
+
+    def test_one_class_is_tried_as_far_as_two_debts_are_one_within_the_limits(self):
+        """Debts of two classes that come to a million units are one debt; of a unit more they are none."""
+        for claim, is_tried in ((500_000, True), (500_001, False)):
+            net = cc.Network([("A", 1, "order"), ("B", 0, "order")], [("A", "B", 1, 500_000), ("A", "B", 2, claim)])
+            self.assertEqual("one class" in cc.stands(net).variations, is_tried, claim)
 
     def test_a_unit_half_as_large_is_left_out_beyond_the_limits(self):
         large = cc.Network([("A", 1, "order"), ("B", 0, "order")], [("A", "B", 1, 600_000)])

@@ -47,6 +47,11 @@ class Limits(Case):
                 debts[0].replace(b"\n", b"\r") + b"\r" * 9,
                 None,
             ),
+            # Those with one do, however lines end, and so do amounts between quotes.
+            (banks_of(1001).replace(b"\n", b"\r"), HEAD, "more than 1,000 banks"),
+            (banks_of(2), debts[1].replace(b"\n", b"\r"), "more than 20,000 debts"),
+            (banks_of(2), owed[1].replace(b"\n", b"\r"), "claims of more than 10,000,000 units"),
+            (banks_of(2), HEAD + b'"A","B","1","9999999"\r\nB,A,1,"2"\r\n', "claims of more than 10,000,000 units"),
             (b"\xff" * 99, b'"', None),
         ]:
             with self.subTest(what=what):
@@ -85,6 +90,12 @@ class Limits(Case):
         self.assertEqual(self.told(lambda: small.central(limits="wide").limits), ("wide", []))
         with self.assertRaises(cc.UsageError):
             small.check(limits="big")
+
+    def test_what_was_said_is_kept_by_a_network_of_other_cash_or_debts(self):
+        for said in ("standard", "wide", None):
+            small = Network({"A": 7, "B": 1}, {("A", "B"): 10}, limits=said)
+            for made in (small.with_cash({"A": 8}), small.with_debts({("B", "A"): 1}).with_cash({"B": 2})):
+                self.assertEqual((made.limits, made.central().limits), (said or "standard",) * 2)
 
     def test_journals_and_scenarios_keep_them(self):
         net = Network(

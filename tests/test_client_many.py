@@ -1,12 +1,14 @@
 """Many networks and scenarios side by side: results as they come, by processes of this machine or by an executor of
 others."""
 import concurrent.futures
+import itertools
 import os
 import pathlib
 import shlex
 import subprocess
 import sys
 import time
+import types
 import unittest
 from typing import Any, Iterator, List, Tuple
 from unittest import mock
@@ -64,12 +66,13 @@ class SideBySide(Case):
         left = list(cc.map_stress([net], Scenarios.cuts(range(250))))
         self.assertEqual([one.number for one in left], list(range(1, 251)))
         self.assertEqual([one.name for one in left], [f"cut {cut}" for cut in range(250)])
-        for call in (cc.map_stress, cc.map_outcomes):
+        for call, before in itertools.product((cc.map_stress, cc.map_outcomes), (0, 99, 100, 150, 250)):
             with self.assertRaises(cc.RefusedError) as caught:
-                list(call([net], [*Scenarios.cuts(range(150)), Scenario("x", 1001)]))
+                list(call([net], [*Scenarios.cuts(range(before)), Scenario("x", 1001)]))
             fault = caught.exception
             self.assertEqual(
-                (fault.file, fault.row, fault.kind, fault.record), ("scenarios", 151, "limit", Scenario("x", 1001))
+                (fault.file, fault.row, fault.kind, fault.record),
+                ("scenarios", before + 1, "limit", Scenario("x", 1001)),
             )
 
     def test_a_fault_comes_in_its_place_and_ends_it(self):
@@ -137,6 +140,13 @@ class Sums(Case):
             self.assertEqual(left.banks.column("bank"), net.banks.column("name"))
             self.assertIs(left.network, net)
             self.assertTrue(all(one.cash == one.outside_paid + one.equity for one in left.scenarios))
+
+    def test_counts_are_those_of_all_runs_of_a_hundred(self):
+        net, scenarios = network_of(TWELVE), Scenarios.cuts(range(100, 1001, 3))
+        (left,), outcomes = cc.map_outcomes([net], scenarios), list(cc.map_stress([net], scenarios))
+        self.assertEqual([one.number for one in outcomes], [*range(1, 302)])
+        wanted = sums_of(types.SimpleNamespace(scenarios=outcomes))
+        self.assertEqual(([tuple(one) for one in left.scenarios], [tuple(one)[1:] for one in left.banks]), wanted)
 
     def test_worked_sums(self):
         scenarios = [

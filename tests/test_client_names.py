@@ -8,6 +8,8 @@ from odd_names import DASHED, ODD_NAMES, all_names, untrimmed
 
 import clearing_client as cc
 from clearing_client import Network, Scenario, Scenarios
+from clearing_client.request import Request
+from clearing_client.texts import PAYMENTS
 
 NAMES = untrimmed([*ODD_NAMES, *DASHED])
 
@@ -53,6 +55,23 @@ class Names(Case):
         self.assertEqual(told.payments.column("paid"), plain.payments.column("paid"))
         self.assertEqual(told.payments.column("debtor"), ["-A", "0"])
         self.assertEqual(told.text, plain.text.replace("rescue,A,", "rescue,-A,").replace("\nA,", "\n-A,"))
+
+    def test_another_name_of_such_a_bank_is_none_that_is_there(self):
+        """Whichever of the names that are tried others have."""
+        for others in (["bank 0"], ["A", "bank 0", "bank 1"], ["0", *(f"bank {at}" for at in range(31))]):
+            net = Network([("-A", 7, "order"), *((name, 0, "order") for name in others)], [("-A", others[-1], 1, 10)])
+            told = net.rescue("-A")
+            self.assertEqual((told.bank, told.added, told.short), ("-A", 3, 1))
+            self.assertEqual(told.payments[0], ("-A", others[-1], 1, 10, 10))
+
+    def test_an_answer_on_names_equal_but_for_capitals_is_none(self):
+        asked = Request(b"name,cash,rule\nAsh,7,order\nASH,1,order\n", b"debtor,creditor,class,claim\nAsh,ASH,1,10\n")
+        cuts, payments = "bank,cut,state\n{},143,fundamental\n{},1001,sound\n", f"{PAYMENTS}\n{{}},{{}},1,10,7\n"
+        for table in (cuts, payments):
+            asked.check(cc.read(table.format("Ash", "ASH")))
+            for names in (("ASH", "Ash"), ("ash", "ASH"), ("Ash", "ash")):
+                with self.subTest(names=names), self.assertRaises(cc.TextError):
+                    asked.check(cc.read(table.format(*names)))
 
     def test_characters_of_each_plane_and_all_of_the_first(self):
         names = list(dict.fromkeys([*all_names(last=0xFFFF), *all_names(0x10000, step=257)]))

@@ -126,6 +126,13 @@ class Texts(Case):
         self.assertEqual([tuple(one) for one in payments], [("A", "B", 1, 10, 7), ("B", "C", 1, 9, 8)])
         self.assertEqual(read(self.printed("clear", *files_of(CHAIN))).total, (19, 15))
 
+    def test_numbers_beyond_2_to_the_53rd_are_exact(self):
+        for number in (2**53 + 1, 10**16 - 1, 25 * 10**18 + 7, 10**40 - 1):
+            payments = read(f"debtor,creditor,class,claim,paid\nA,B,1,{number},{number - 1}\n")
+            self.assertEqual(payments.payments[0], ("A", "B", 1, number, number - 1))
+            sums = ("banks,2", "debts,1", f"owed,{number}", f"cash,{number - 1}", "paid,0", "defaults,0", "equity,7")
+            self.assertEqual(tuple(read("\n".join([*sums, ""])).total), (2, 1, number, number - 1, 0, 0, 7))
+
     def test_a_text_that_was_cut_short_is_refused(self):
         for task, text in self.texts(HUB):
             for place in range(1, len(text)):

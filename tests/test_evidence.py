@@ -112,6 +112,55 @@ class Made(EvidenceCase):
         self.assertEqual(done.returncode, 0, done.stdout)
         self.assertEqual(done.stdout.count(b"; payments same; defaults same\n"), 3)
 
+    def test_the_bank_that_is_saved_is_told_from_others_equal_but_for_capitals(self):
+        folder, words = self.folder / "evidence", ["--bank", "Ash"]
+        words += ["--banks", self.file("b.csv", "name,cash,rule\nash,0,order\nAsh,3,order\nASH,1,order\nC,0,order\n")]
+        words += ["--debts", self.file("d.csv", "debtor,creditor,class,claim\nash,C,1,1\nAsh,C,1,5\nASH,C,1,9\n")]
+        done = evidence("make", folder, *words)
+        self.assertEqual((done.returncode, done.stderr), (0, b""))
+        done = self.without_program("check", folder)
+        self.assertEqual((done.returncode, done.stderr), (0, b""), done.stdout)
+        self.assertIn(b"\nrescue of Ash with 2: sound with it, and not with a unit less\n", done.stdout)
+
+    def test_the_last_of_a_hundred_scenarios_is_checked_as_the_first(self):
+        scenarios = "".join(f'[[scenario]]\nname = "{cut}"\ncut = {cut}\n' for cut in range(901, 1001))
+        folder = self.folder / "evidence"
+        done = evidence("make", folder, *files_of(HUB), "--scenarios", self.file("s.toml", scenarios))
+        self.assertEqual((done.returncode, done.stderr), (0, b""))
+        done = self.without_program("check", folder)
+        self.assertEqual((done.returncode, done.stderr), (0, b""))
+        self.assertEqual(done.stdout.count(b"; payments same; defaults same\n"), 101)
+        banks = (folder / "scenario-100/banks.csv").read_bytes()
+        (folder / "scenario-100/banks.csv").write_bytes(banks.replace(b",webster", b",order", 1))
+        self.sums_anew(folder)
+        done = self.without_program("check", folder)
+        self.assertEqual(done.returncode, 5, done.stdout)
+        self.assertIn(b"\nscenario 99: banks same\nscenario 100: banks differ\n", done.stdout)
+
+    def test_a_journal_of_long_names_and_single_units_is_read_whole(self):
+        """Each raise pays one unit, and the first bank alone has a short name."""
+        names, folder = ["A", *(f"{number:N>64}" for number in range(30))], self.folder / "evidence"
+        banks = "name,cash,rule\n" + "".join(f"{name},1,order\n" for name in names)
+        debts = "".join(f"{name},{names[place]},1,1\n" for place, name in enumerate(names[1:]))
+        words = ["--banks", self.file("b.csv", banks)]
+        words += ["--debts", self.file("d.csv", f"debtor,creditor,class,claim\n{debts}")]
+        self.assertEqual(evidence("make", folder, *words).returncode, 0)
+        done = self.without_program("check", folder)
+        self.assertEqual((done.returncode, done.stderr), (0, b""), done.stdout)
+        self.assertIn(b"\nas it is: lawful,30; payments same; defaults same\n", done.stdout)
+
+    def test_each_command_is_run_again_the_last_one_too(self):
+        """A program prints otherwise what is the first, or the last, of the commands."""
+        folder = self.hub(ONE_SCENARIO)
+        commands = [line.split("\t") for line in (folder / "commands.tsv").read_text().splitlines()[1:]]
+        count = len(commands)
+        for file, _, *words in (commands[0], commands[-1]):
+            other = f'[ "$*" != "{" ".join(words)}" ] || {{ echo other; exit 0; }}\nexec {shlex.quote(PROGRAM)} "$@"\n'
+            done = evidence("check", folder, program=str(self.executable("program", other)))
+            self.assertEqual((done.returncode, done.stderr), (8, b""), done.stdout)
+            told = f"commands run again: {count - 1} of {count} the same\ncommands run again: {file} differs\n"
+            self.assertIn(told, done.stdout.decode())
+
     def test_a_text_of_what_was_changed_belongs_to_a_folder(self):
         text = self.file("said.txt", "Hub: cash 5 in place of 4.\n")
         folder = self.folder / "evidence"

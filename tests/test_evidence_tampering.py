@@ -48,6 +48,16 @@ def alter(name: str, old: str, new: str, count: int = 1) -> Work:
     return work
 
 
+def changed(name: str, change: Callable[[bytes], bytes]) -> Work:
+    """Writes what a change makes of a file."""
+    return lambda folder: put(name, change((folder / name).read_bytes()))(folder)
+
+
+def without_last(text: bytes) -> bytes:
+    """A text without its last line."""
+    return b"".join(text.splitlines(True)[:-1])
+
+
 def copy(name: str, to: str) -> Work:
     return lambda folder: put(to, (folder / name).read_bytes())(folder)
 
@@ -350,6 +360,12 @@ TABLE = [
     ("sums made up", alter("as-is/defaults.csv", "total,", "total,9"), 7, "defaults differ"),
     ("states of stress made up", alter("stress.csv", "contagion", "sound", 9), 7, "stress.csv: differs"),
     ("stress of another name", alter("stress.csv", "scenario,half", "scenario,none"), 7, "stress.csv: differs"),
+    ("a scenario more of stress", changed("stress.csv", lambda text: text + b"\n" + text), 7, "stress.csv: differs"),
+    ("a line end more of stress", changed("stress.csv", lambda text: text + b"\n"), 7, "stress.csv: differs"),
+    ("stress without its last line", changed("stress.csv", without_last), 7, "stress.csv: differs"),
+    ("no payment of the last debt", changed("as-is/payments.csv", without_last), 7, "payments differ"),
+    ("no line of cash", changed("scenario-1/defaults.csv", without_last), 7, "defaults differ"),
+    ("a bank more", changed("as-is/defaults.csv", lambda text: text + b"Nord,0,0,0,0,sound\n"), 7, "defaults differ"),
     ("states made up in both", both(SOUND, alter("stress.csv", "contagion", "sound", 9)), 7, "scenario 1: lawful"),
     ("another want of the rescue", alter("rescue/rescue.csv", "short,1", "short,2"), 7, "not what the tables say"),
     (

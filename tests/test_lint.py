@@ -185,6 +185,30 @@ class Told(Case):
             + ["7 faults"],
         )
 
+    def test_the_last_of_many_faults_and_of_many_names_is_told(self):
+        debts = self.file("debts.csv", "debtor,creditor,class,claim\n")
+        for count in (31, 1000, 1500):
+            lines = "".join(f"N{number},x,order\n" for number in range(count))
+            done = self.run_lint(1, self.file("banks.csv", f"name,cash,rule\n{lines}"), debts, "--limits", "wide")
+            self.assertEqual((len(done), done[-1]), (count + 1, f"{count:,} faults"))
+            self.assertIn(f"banks.csv line {count + 1} (row {count}) cash: number (4): 'x' is not a number", done[-2])
+            lines = "".join(f"N{number},1,order\n" for number in range(count)) + "=N,1,order\n"
+            done = self.run_lint(0, self.file("banks.csv", f"name,cash,rule\n{lines}"), debts, "--limits", "wide")
+            self.assertEqual((len(done), done[-1]), (2, "no fault, 1 warning"))
+            self.assertIn(f"banks.csv line {count + 2} (row {count + 1}) name: warning: a spreadsheet takes", done[0])
+
+    def test_that_the_sum_of_all_claims_is_too_large_is_told_once(self):
+        """At the claim that passes it; those behind it say nothing new."""
+        banks = self.file("banks.csv", "name,cash,rule\nA,1,order\nB,1,order\n")
+        pairs = [(*pair, rank) for pair in ("AB", "BA") for rank in range(1, 8)]
+        lines = "".join(f"{debtor},{creditor},{rank},1000000\n" for debtor, creditor, rank in pairs)
+        debts = self.file("debts.csv", f"debtor,creditor,class,claim\n{lines}")
+        done = self.run_lint(1, banks, debts, "--limits", "standard")
+        self.assertEqual((len(done), done[-1]), (2, "1 fault"))
+        told = "line 12 (row 11) claim: total (13): the claims so far come to 11,000,000, and the most is 10,000,000"
+        self.assertIn(told, done[0])
+        self.assertEqual(self.run_lint(0, banks, debts, "--limits", "wide"), ["no fault"])
+
     def test_examples_have_no_fault_and_missing_files_are_told(self):
         for folder in sorted((ROOT / "examples").iterdir()):
             if (folder / "banks.csv").exists():

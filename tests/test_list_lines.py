@@ -80,6 +80,21 @@ class Which(ListCase):
         self.take("debtor,creditor,class,amount\nA,B,1,1\nA,B,2,2\n")
         self.assertEqual(self.debts.read_text(), "debtor,creditor,class,claim\nA,B,1,1\nA,B,2,2\n")
 
+    def test_a_thousand_lines_of_one_debt_are_summed_to_the_last(self):
+        """The last one has no line end."""
+        lines = "\n".join(f"{number},A,B,{number}" for number in range(1, 1001))
+        told = self.take(f"id,debtor,creditor,amount\n{lines}", "--sum", "--ignore", "id")
+        self.assertIn("lines summed: 1,000; into 1 debt\ndebts in the sheet: 1; 500,500 in all\n", told)
+        self.assertEqual(self.debts.read_text(), "debtor,creditor,class,claim\nA,B,1,500500\n")
+
+    def test_names_equal_but_for_capitals_are_banks_each(self):
+        text = "debtor,creditor,amount\nAsh,B,1\nASH,B,2\nash,B,4\nB,ash,8\nB,Ash,16\nash,ASH,32\n"
+        self.take(text, table="bank,cash\nash,1\nB,2\nASH,3\nAsh,4\n")
+        self.check(
+            "name,cash,rule\nash,1,webster\nB,2,webster\nASH,3,webster\nAsh,4,webster\n",
+            "debtor,creditor,class,claim\nAsh,B,1,1\nASH,B,1,2\nash,B,1,4\nB,ash,1,8\nB,Ash,1,16\nash,ASH,1,32\n",
+        )
+
 
 class Totals(ListCase):
     """Lines of totals, in the list and in the table."""
@@ -304,6 +319,19 @@ class Meaning(ListCase):
             table='code,cash,full name\nX1,1,"Ash, Inc."\nX2,2,Birch\n',
         )
         self.assertEqual(labels.read_text(), 'code,name\nX1,"Ash, Inc."\nX2,Birch\n')
+
+    def test_many_names_of_80_letters_with_one_beginning_get_a_code_each(self):
+        """Each code is a name of 64 bytes at most, however many of them are counted on."""
+        names, labels = [f"{'N' * 77}{number:03}" for number in range(120)], self.file("labels.csv")
+        table = "".join(f"{name},{number}\n" for number, name in enumerate(names))
+        text = f"debtor,creditor,amount\n{names[0]},{names[-1]},5\n"
+        self.take(text, "--label", labels, table=f"bank,cash\n{table}")
+        banks = [line.split(",") for line in self.printed("check", *self.files).split("\n\n")[1].splitlines()[1:]]
+        self.assertEqual([int(cash) for _, cash, _ in banks], list(range(120)))
+        self.assertEqual(len({code for code, _, _ in banks}), 120)
+        self.assertEqual({len(code) for code, _, _ in banks}, {64})
+        told = [line.split(",") for line in labels.read_text().splitlines()[1:]]
+        self.assertEqual(told, [[code, name] for (code, _, _), name in zip(banks, names)])
 
 
 class Telling(ListCase):

@@ -39,6 +39,16 @@ class TwoFiles(ImportCase):
             "debtor,creditor,class,claim\nA,B,1,12\nA,C,1,8\nB,A,1,4\nB,C,1,17\nC,A,1,6\nC,B,1,2\n",
         )
 
+    def test_names_equal_but_for_capitals_are_banks_each(self):
+        """Also where what one of them owes stands below 0 in the line of the other."""
+        sheet = self.file("m.csv", ",Ash,B,ASH,cash\nAsh,0,1,2,3\nB,4,0,-8,5\nASH,16,32,0,6\n")
+        told = self.told("clearing-from-matrix", sheet, "--turn", "negative", *self.files)
+        self.assertIn("debts summed, as one was turned round: 2; into 1\n", told)
+        self.check(
+            "name,cash,rule\nAsh,3,webster\nB,5,webster\nASH,6,webster\n",
+            "debtor,creditor,class,claim\nAsh,B,1,1\nAsh,ASH,1,2\nB,Ash,1,4\nASH,B,1,40\nASH,Ash,1,16\n",
+        )
+
     def test_the_input_stays_and_both_files_are_written_or_none(self):
         sheet = self.file("same.csv", MATRIX)
         table = self.file("table.csv", "bank,ea,el\nA,3,0\nB,1,2\nC,4,1\n")
@@ -182,6 +192,36 @@ class Columns(ImportCase):
             )
             self.check("name,cash,rule\nA,3,webster\nB,4,webster\n", "debtor,creditor,class,claim\nA,B,1,6\nB,A,1,2\n")
             self.begin_anew()
+
+    def test_what_is_owed_outside_in_several_columns_adds_up(self):
+        columns = {"deposits": 1, "bonds": 2, "loans": 4, "leases": 8, "else": 16}
+        text = f",A,B,cash,{','.join(columns)}\nA,0,6,3,{','.join(map(str, columns.values()))}\nB,2,0,4,0,,0,32,\n"
+        words = [word for column in columns for word in ("--outside", column)]
+        told = self.told("clearing-from-matrix", self.file("m.csv", text), *words, *self.files)
+        self.assertIn("owed outside made: 2; 63 in all; in units of 1: 63\n", told)
+        self.check(
+            "name,cash,rule,outside\nA,3,webster,31\nB,4,webster,32\n",
+            "debtor,creditor,class,claim\nA,B,1,6\nB,A,1,2\n",
+        )
+
+    def test_a_group_has_the_cash_of_all_its_banks(self):
+        """Also where it is more than a binary fraction has exactly."""
+        cash = [100_003 * units for units in (3 * 10**11, 3 * 10**11 + 1, 2 * 10**11 + 2)]
+        lines = "".join(f"{name},0,0,0,{amount}\n" for name, amount in zip("ABC", cash))
+        groups = self.file("g.csv", "bank,group\nA,G\nB,G\nC,G\n")
+        words = ["--groups", groups, "--unit", "100003", *self.files]
+        self.told("clearing-from-matrix", self.file("m.csv", f",A,B,C,cash\n{lines}"), *words)
+        self.check("name,cash,rule\nG,800000000003,webster\n", "debtor,creditor,class,claim\n")
+
+    def test_groups_equal_but_for_capitals_are_two(self):
+        sheet = self.file("m.csv", ",A,B,C,cash\nA,0,1,2,3\nB,4,0,8,5\nC,16,32,0,6\n")
+        groups = self.file("g.csv", "bank,group\nA,North\nB,NORTH\nC,North\n")
+        told = self.told("clearing-from-matrix", sheet, "--groups", groups, *self.files)
+        self.assertIn("groups: 2; of 3 banks\ndebts within groups, left out: 2; 18 in all\n", told)
+        self.check(
+            "name,cash,rule\nNorth,9,webster\nNORTH,5,webster\n",
+            "debtor,creditor,class,claim\nNorth,NORTH,1,33\nNORTH,North,1,12\n",
+        )
 
     def test_banks_of_the_table_alone_are_kept(self):
         matrix = self.file("m.csv", ",B,C\nA,6,4\nB,0,8\n")

@@ -1,5 +1,5 @@
 """`clearing-shock` writes the banks that a scenario leaves, which are those that `stress` clears."""
-from common import HUB, TWELVE, clearing
+from common import HUB, TWELVE, clearing, records
 from evidences import SCENARIOS, EvidenceCase, evidence
 
 
@@ -34,6 +34,21 @@ class Shock(EvidenceCase):
                 self.assertEqual(block.split("\n", 1)[1].rstrip("\n"), made.rstrip("\n"))
                 # And it is in the form in which it is printed.
                 self.assertEqual(self.printed("check", *files).split("\n\n")[1] + "\n", left.read_text())
+
+    def test_a_cut_takes_whole_units_to_the_last_of_the_largest_cash(self):
+        """Of such amounts the product of a binary fraction may be a unit less than the exact one."""
+        amounts = [750, 3000, 375_448_265_625, 660_987_054_100, 919_277_310_750, 10**12 - 1, 10**12]
+        cuts = [1, 9, 18, 36, 72, 288, 410, 999]
+        banks = self.file("b.csv", "name,cash,rule\n" + "".join(f"B{cash},{cash},order\n" for cash in amounts))
+        debts = self.file("d.csv", "debtor,creditor,class,claim\n")
+        text = "".join(f'[[scenario]]\nname = "{cut}"\ncut = {cut}\n' for cut in cuts)
+        words = ["--banks", banks, "--scenarios", self.file("s.toml", text)]
+        blocks = self.printed("stress", *words, "--debts", debts).split("\n\n")
+        for number, (cut, block) in enumerate(zip(cuts, blocks), 1):
+            left = records(self.made("clearing-shock", *words, "--scenario", number))
+            self.assertEqual([int(cash) for _, cash, _ in left], [cash - cash * cut // 1000 for cash in amounts], cut)
+            standings = records(block[block.index("\nbank,") + 1 :])[: len(amounts)]
+            self.assertEqual([cash for _, cash, _ in left], [estate for _, estate, *_ in standings], cut)
 
     def test_a_byte_order_mark_above_scenarios_is_dropped(self):
         banks, debts = HUB / "banks.csv", HUB / "debts.csv"

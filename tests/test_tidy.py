@@ -119,6 +119,33 @@ class Tidy(Case):
         for unit in ("0", "-1", "nan", "inf", "x", ""):
             self.assertEqual(tool("clearing-tidy", "x.csv", "--unit", unit).returncode, 2)
 
+    def test_each_number_is_an_amount_or_a_count(self):
+        """Of all tables: amounts are in the currency, and counts stay."""
+        counts = set(
+            "also_saved banks class cut debts defaults entry falls fundamental last number raises rank rounds stamp "
+            "still_short wave".split()
+        )
+        scenarios = self.file("s.toml", SCENARIOS)
+        seen = set()
+        for task, *words in (
+            *([task] for task in ("defaults", "check", "bounds", "rescues", "breaking", "impact", "compress")),
+            *([task, "--keep", 900] for task in ("costs", "cost-bounds")),
+            *([task, "--scenarios", scenarios] for task in ("stress", "outcomes")),
+            ["clear", "--show", "both"],
+            ["rescue", "--bank", "South"],
+        ):
+            text = self.printed(task, *HUB, *words)
+            units, tens = self.tidy(text), self.tidy(text, "--unit", "10")
+            for name, path in units.items():
+                records = table_of(path), table_of(tens[name])
+                self.assertEqual(*map(len, records))
+                for one, other in zip(*records):
+                    for column in [column for column, value in one.items() if value.isdigit()]:
+                        times = 1 if column in counts else 10
+                        self.assertEqual(int(other[column]), times * int(one[column]), (task, name, column))
+                        seen |= {column} if int(one[column]) else set()
+        self.assertLessEqual({"others", "own", "added", "short", "lost", "greatest", "equity_at_least", "to"}, seen)
+
     def test_banks_named_like_sums(self):
         banks = self.file("b.csv", "name,cash,rule\ntotal,7,order\ncash,1,order\nscenario,0,order\n")
         debts = self.file("d.csv", "debtor,creditor,class,claim\ntotal,cash,1,10\ncash,scenario,1,9\n")

@@ -288,6 +288,16 @@ class Why(Case):
             self.assertEqual((done.stdout.splitlines(), done.stderr), (lines, ""))
             self.assertEqual(done.returncode, 0 if lines[-1].startswith("understood") else 1)
 
+    def test_what_is_wrong_with_the_name_of_a_bank_is_told(self) -> None:
+        """Its length is one in bytes: 32 letters of two bytes each are a name, and 33 are too long."""
+        words = ["rescue", "--banks", "b.csv", "--debts", "d.csv", "--bank"]
+        long, signs = "a name has 1 to 64 bytes", "a name has no comma, double quote or control character"
+        for name, wrong in (("é" * 33, long), ("x" * 80, long), ("", long), ("A,B", signs), ("A\x7f", signs)):
+            with self.subTest(name=name):
+                ((at, told),) = why.faults_of([*words, name])
+                self.assertEqual((at, told.endswith(f" is no value of --bank: {wrong}")), (7, True), told)
+        self.assertEqual(why.faults_of([*words, "é" * 32]), [])
+
     def test_words_that_are_not_utf_8_are_told(self) -> None:
         self.assertEqual(why.faults_of(["clear", "\udcff"])[0], (2, "it is not UTF-8"))
         self.assertEqual(

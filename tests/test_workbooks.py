@@ -79,6 +79,15 @@ class Workbooks(ImportCase):
             "debtor,creditor,class,claim\nA,B,1,12345\nA,C,1,1500\nB,A,1,30445\nB,C,1,300\nC,A,1,1000000\nC,B,1,1\n",
         )
 
+    def test_a_whole_number_is_itself_to_its_last_digit(self):
+        """Also one beyond 2^53, of which a binary fraction has not all digits."""
+        rows = [["", "A", "B", "cash"], ["A", 0, 10007, 10007 * (9 * 10**11 + 1)], ["B", 0, 0, 10007 * 10**12]]
+        self.take(written(self.folder / "m.xlsx", {"S": rows}), "--unit", "10007")
+        self.check(
+            "name,cash,rule\nA,900000000001,webster\nB,1000000000000,webster\n",
+            "debtor,creditor,class,claim\nA,B,1,1\n",
+        )
+
     def test_what_is_no_number_is_refused_with_its_cell(self):
         for value, change, told in [
             (datetime.date(2025, 12, 31), "", "C2 (column B): '2025-12-31' is a date, and no amount"),

@@ -18,6 +18,7 @@ const load = (name) => import(pathToFileURL(path.join(folder, `${name}.mjs`)).hr
 const { apart, many, minus, number, signed } = await load("texts");
 const { cut, listed, word } = await load("sentences");
 const { Money } = await load("money");
+const { accountAgainst, linesOf } = await load("account");
 const compare = await load("compare");
 const { atGreatest, differs, fallen, rows, saved, soundAtGreatest, sorted, sums } = compare;
 const { aligned } = await load("othercase");
@@ -242,6 +243,32 @@ test("a state of another case stands over the banks of this one", () => {
     [found.state, found.left, found.owed],
     [["fundamental", "absent", "sound"], [2, 0, 10], [8, 0, 5]],
   );
+});
+
+test("the account of another case has a line for each debtor that is here, the first bank too", async () => {
+  const asked = [];
+  const unpaid = [[2, 7, 0, false], [0, 5, 1, false], [1, 3, 0, false], [3, 1, 0, false]];
+  const there = { whole: 10, loss: 1, unpaid, outside: 2, lost: 0, left: -8 };
+  const { fetch } = globalThis;
+  globalThis.fetch = async (address) => {
+    asked.push(address);
+    const headers = { "Content-Type": "application/json" };
+    return new Response(JSON.stringify({ account: there }), { headers });
+  };
+  try {
+    // The first bank is the first here too, two others are not here, and one has another place.
+    const bankOf = (bank) => [0, undefined, 4, undefined][bank];
+    const before = await accountAgainst({ against: { case: 1, placeOf: () => 0, bankOf } }, 0);
+    const lines = linesOf({ whole: 0, loss: 0, unpaid: [], outside: 0, lost: 0, left: 0 }, before);
+    assert.deepEqual(asked, ["other/1/0"]);
+    assert.deepEqual(
+      lines.slice(2, -1).map(({ words, debtor, was }) => [words, debtor, was]),
+      [["unpaid by ", 4, -7], ["unpaid by banks of that case alone", undefined, -4], ["unpaid by ", 0, -4]],
+    );
+    assert.equal(lines.reduce((sum, { was }) => sum + was, 0), there.left);
+  } finally {
+    globalThis.fetch = fetch;
+  }
 });
 
 test("what is paid outside is paid, and what is owed there is owed", () => {
