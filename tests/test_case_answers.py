@@ -398,10 +398,24 @@ class Shocks(Case):
         )
         self.assertEqual(drought["loss"], [{"bank": "Kemi", "amount": round(cash["Kemi"] * 333 / 1000)}])
 
+    def test_a_column_without_a_name_is_passed_over_where_it_is_empty_or_that_is_said(self):
+        for text, words in [
+            ("bank,,x\nKemi,,5000\n", []),
+            ("bank,x,\nKemi,5000,7000\n", ["--ignore="]),
+            ("scenario,,Kemi\nx,,5000\n", ["--rows"]),
+            ("scenario,,Kemi\nx,7000,5000\n", ["--rows", "--ignore", ""]),
+        ]:
+            self.made("clearing-case", "scenarios", self.place, self.file("s.csv", text), "--replace", *words)
+            self.assertEqual(self.scenarios(), [{"name": "x", "loss": [{"bank": "Kemi", "amount": 5}]}], text)
+
     def test_what_is_no_loss_is_refused(self):
         for text, words, told in [
             ('bank,"x ""y"""\nKemi,7\n', [], "is no name of a scenario"),
             ("bank,x\nNobody,7\n", [], "has no bank Nobody"),
+            ("bank,x,\nKemi,5,7\n", [], "s.csv row 1 column without a name: fields stand below it; name it, or say"),
+            ("scenario,Kemi,\nstorm,5,7\n", ["--rows"], "s.csv row 1 column without a name: fields stand below it"),
+            ("bank,,x\nKemi,7,5\nElbe,,\n", [], "s.csv row 1 column without a name: fields stand below it"),
+            ("bank,x\nKemi,5\n", ["--ignore", "nosuch"], "s.csv row 1: no column nosuch; it has x; say --ignore NAME"),
             ("bank,x\nKemi,-7\n", [], "is below 0"),
             ("bank,x\nKemi,seven\n", [], "'seven' is not an amount"),
             ("bank,x\nKemi,1.5\n", ["--share"], "1.5 is no share of cash from 0 to 1"),
