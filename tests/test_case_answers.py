@@ -192,6 +192,18 @@ class Many(Case):
         done = cc.ensemble([network(), network(BANKS[:3], DEBTS[:2])])
         self.assertEqual({one.bank: one.networks for one in done.shares}, {"A": 2, "B": 2, "C": 2, "D": 1})
 
+    def test_amounts_of_several_currencies_are_not_put_together(self):
+        euros, dollars, bare = (cc.Case(network(), currency=code, unit="2") for code in ("EUR", "USD", None))
+        for cases in ([euros, dollars], [bare, euros, bare, dollars, euros]):
+            with self.assertRaisesRegex(cc.CaseError, "the cases are in EUR and USD"):
+                cc.ensemble(cases)
+        self.assertEqual(cc.ensemble([bare, euros, euros]).shares[0].networks, 3)
+        places = [self.folder / "one", self.folder / "other"]
+        for case, place in zip((euros, dollars), places):
+            case.write(place)
+        for task in ("compare", "ensemble"):
+            self.refused("clearing-case", 1, "clearing.currency: the cases are in EUR and USD", task, *places)
+
     def test_costs_want_what_default_keeps(self):
         with self.assertRaisesRegex(cc.CaseError, "clearing.keep"):
             cc.ensemble(self.nets(), "costs")
