@@ -256,7 +256,7 @@ test("a state of another case stands over the banks of this one", () => {
 
 test("the account of another case has a line for each debtor that is here, the first bank too", async () => {
   const asked = [];
-  const unpaid = [[2, 7, 0, false], [0, 5, 1, false], [1, 3, 0, false], [3, 1, 0, false]];
+  const unpaid = [[2, 7, 0], [0, 5, 1], [1, 3, 0], [3, 1, 0]];
   const there = { whole: 10, loss: 1, unpaid, outside: 2, lost: 0, left: -8 };
   const { fetch } = globalThis;
   globalThis.fetch = async (address) => {
