@@ -105,6 +105,21 @@ class Compared(Case):
         self.assertNotIn("<b>", page)
         self.assertNotIn("≈", page)
 
+    def test_banks_have_the_full_names_of_all_cases_those_of_the_later_one_first(self):
+        before = cc.Case(network(), labels=[cc.Label("A", full="Alpha"), cc.Label("D", full="Delta")])
+        after = cc.Case(
+            cc.Network([*BANKS[:3], ("E", 4, "webster")], DEBTS[:2]),
+            labels=[cc.Label("A", full="Alpha & Co"), cc.Label("B", "Be"), cc.Label("E", full="Epsilon")],
+        )
+        names = {"A": "Alpha & Co", "B": "", "C": "", "D": "Delta", "E": "Epsilon"}
+        rows = self.compared(before, after)
+        self.assertEqual({row["bank"]: row["full"] for row in rows}, names)
+        page = (self.folder / "page.html").read_text()
+        self.assertIn("<li>Came: Epsilon</li>\n<li>Went: Delta</li>", page)
+        told = self.made("clearing-case", "ensemble", self.folder / "before", self.folder / "after")
+        shares = csv.DictReader(io.StringIO(told.split("\n\n")[0]))
+        self.assertEqual({row["bank"]: row["full"] for row in shares if row["task"] == "defaults"}, names)
+
     def test_a_bank_that_one_unit_decides_is_marked(self):
         place = self.folder / "one"
         cc.Case(one_unit(), labels=[cc.Label("B", full="Beta")]).write(place)
