@@ -120,6 +120,17 @@ class Compared(Case):
         shares = csv.DictReader(io.StringIO(told.split("\n\n")[0]))
         self.assertEqual({row["bank"]: row["full"] for row in shares if row["task"] == "defaults"}, names)
 
+    def test_the_page_says_what_amounts_are_in_by_both_cases(self):
+        for units, currencies, told in [
+            ("11", (None, None), "units"),
+            ("21", (None, None), "the currency"),
+            ("12", (None, None), "the currency"),
+            ("21", ("EUR", None), "EUR"),
+            ("12", (None, "EUR"), "EUR"),
+        ]:
+            self.compared(*(cc.Case(network(), unit=unit, currency=one) for unit, one in zip(units, currencies)))
+            self.assertIn(f"<p>Amounts in {told}.</p>", (self.folder / "page.html").read_text())
+
     def test_a_bank_that_one_unit_decides_is_marked(self):
         place = self.folder / "one"
         cc.Case(one_unit(), labels=[cc.Label("B", full="Beta")]).write(place)
