@@ -134,9 +134,8 @@ class Imported(Case):
         case.write(self.place, replace=True)
         sheet = self.file("m.csv", MATRIX)
         told = self.told("clearing-from-matrix", sheet, *PLAIN, "--case", self.place, "--replace")
-        lines = ["the date of the case before, not kept: 2026-01-31\n", "labels of the case before, not kept: 2; A, B\n"]
-        for line in lines:
-            self.assertIn(line, told)
+        for what, gone in (("the date", "2026-01-31"), ("labels", "2; A, B")):
+            self.assertIn(f"{what} of the case before, not kept: {gone}\n", told)
         case = cc.Case.read(self.place)
         self.assertEqual(
             (case.title, case.description, case.contributors, case.version, case.keep, case.test, case.currency),

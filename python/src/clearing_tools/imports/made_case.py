@@ -36,7 +36,7 @@ def add_case_words(parser: argparse.ArgumentParser) -> None:
     """The words that make a case of what is imported, and say what belongs to it."""
     add = parser.add_argument
     add("--case", metavar="FOLDER", help="the case to write: a folder with the two files and what belongs to them")
-    add("--replace", action="store_true", help="write over a case that is there; its date and labels go, all else stays")
+    add("--replace", action="store_true", help="write over a case that is there; date and labels go, all else stays")
     add("--keep-sources", action="store_true", help="copies of the sheets in the case")
     add("--title", metavar="TEXT", help="the title of the case")
     add("--as-of", metavar="DATE", type=date_in, help="the date of the amounts, YYYY-MM-DD")
