@@ -165,8 +165,8 @@ def swallow(work: Callable[[], object]) -> None:
 def account_of(base: Any, cleared: Any, bank: int, made: Any = None) -> Any:
     """The account of a bank in a state that was cleared, by the desk's module of accounts or by another one."""
     made = made or importlib.import_module("clearing_tools.desk.account")
-    owes, owed = made.debts_by(base, cleared)
-    return made.account_by(base, cleared, bank, owes, owed.get(bank, []))
+    _, owed = made.debts_by(base, cleared)
+    return made.account_by(base, cleared, bank, owed.get(bank, []))
 
 
 def standings(task: str, *words: Word) -> List[List[str]]:

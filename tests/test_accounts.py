@@ -41,8 +41,8 @@ PLANTED = {
     "what is paid is what is unpaid": ("one[1] += paid", "one[1] += claim - paid"),
     "the last debtor has no line": ("return sorted(lines, ", "return sorted(lines[:-1], "),
     "the debtors are those of the claims owed": (
-        "for _, debtor, _, class_, claim, paid in owed:",
-        "for _, _, debtor, class_, claim, paid in owed:",
+        "for _, debtor, _, _, claim, paid in owed:",
+        "for _, _, debtor, _, claim, paid in owed:",
     ),
     "no test at the end": ("- (outside - one.outside_paid):", "- (outside - one.outside_paid) and bank:"),
 }
@@ -242,7 +242,7 @@ class Accounts(unittest.TestCase):
     @needs("node")
     def test_the_lines_of_999_debtors_and_of_the_largest_amounts_add_up(self):
         """Of a bank to which all others of the standard limits owe, and that has, lost and owes as much as one may."""
-        unpaid = [accounts.Line(debtor, 20_000, debtor % 7, False) for debtor in range(1, 1000)]
+        unpaid = [accounts.Line(debtor, 20_000, debtor % 7) for debtor in range(1, 1000)]
         gone = sum(line.claim - line.paid for line in unpaid)
         whole, loss, outside, lost = 10**12 + 999 * 20_000, 10**12 - 1, 10**11 - 1, 10**9 + 1
         now = accounts.Account(whole, loss, unpaid, outside, lost, whole - loss - gone - outside - lost)

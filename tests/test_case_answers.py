@@ -105,6 +105,32 @@ class Compared(Case):
         self.assertNotIn("<b>", page)
         self.assertNotIn("≈", page)
 
+    def test_banks_have_the_full_names_of_all_cases_those_of_the_later_one_first(self):
+        before = cc.Case(network(), labels=[cc.Label("A", full="Alpha"), cc.Label("D", full="Delta")])
+        after = cc.Case(
+            cc.Network([*BANKS[:3], ("E", 4, "webster")], DEBTS[:2]),
+            labels=[cc.Label("A", full="Alpha & Co"), cc.Label("B", "Be"), cc.Label("E", full="Epsilon")],
+        )
+        names = {"A": "Alpha & Co", "B": "", "C": "", "D": "Delta", "E": "Epsilon"}
+        rows = self.compared(before, after)
+        self.assertEqual({row["bank"]: row["full"] for row in rows}, names)
+        page = (self.folder / "page.html").read_text()
+        self.assertIn("<li>Came: Epsilon</li>\n<li>Went: Delta</li>", page)
+        told = self.made("clearing-case", "ensemble", self.folder / "before", self.folder / "after")
+        shares = csv.DictReader(io.StringIO(told.split("\n\n")[0]))
+        self.assertEqual({row["bank"]: row["full"] for row in shares if row["task"] == "defaults"}, names)
+
+    def test_the_page_says_what_amounts_are_in_by_both_cases(self):
+        for units, currencies, told in [
+            ("11", (None, None), "units"),
+            ("21", (None, None), "the currency"),
+            ("12", (None, None), "the currency"),
+            ("21", ("EUR", None), "EUR"),
+            ("12", (None, "EUR"), "EUR"),
+        ]:
+            self.compared(*(cc.Case(network(), unit=unit, currency=one) for unit, one in zip(units, currencies)))
+            self.assertIn(f"<p>Amounts in {told}.</p>", (self.folder / "page.html").read_text())
+
     def test_a_bank_that_one_unit_decides_is_marked(self):
         place = self.folder / "one"
         cc.Case(one_unit(), labels=[cc.Label("B", full="Beta")]).write(place)
@@ -191,6 +217,18 @@ class Many(Case):
     def test_a_bank_of_some_networks_is_counted_in_these(self):
         done = cc.ensemble([network(), network(BANKS[:3], DEBTS[:2])])
         self.assertEqual({one.bank: one.networks for one in done.shares}, {"A": 2, "B": 2, "C": 2, "D": 1})
+
+    def test_amounts_of_several_currencies_are_not_put_together(self):
+        euros, dollars, bare = (cc.Case(network(), currency=code, unit="2") for code in ("EUR", "USD", None))
+        for cases in ([euros, dollars], [bare, euros, bare, dollars, euros]):
+            with self.assertRaisesRegex(cc.CaseError, "the cases are in EUR and USD"):
+                cc.ensemble(cases)
+        self.assertEqual(cc.ensemble([bare, euros, euros]).shares[0].networks, 3)
+        places = [self.folder / "one", self.folder / "other"]
+        for case, place in zip((euros, dollars), places):
+            case.write(place)
+        for task in ("compare", "ensemble"):
+            self.refused("clearing-case", 1, "clearing.currency: the cases are in EUR and USD", task, *places)
 
     def test_costs_want_what_default_keeps(self):
         with self.assertRaisesRegex(cc.CaseError, "clearing.keep"):
@@ -398,10 +436,24 @@ class Shocks(Case):
         )
         self.assertEqual(drought["loss"], [{"bank": "Kemi", "amount": round(cash["Kemi"] * 333 / 1000)}])
 
+    def test_a_column_without_a_name_is_passed_over_where_it_is_empty_or_that_is_said(self):
+        for text, words in [
+            ("bank,,x\nKemi,,5000\n", []),
+            ("bank,x,\nKemi,5000,7000\n", ["--ignore="]),
+            ("scenario,,Kemi\nx,,5000\n", ["--rows"]),
+            ("scenario,,Kemi\nx,7000,5000\n", ["--rows", "--ignore", ""]),
+        ]:
+            self.made("clearing-case", "scenarios", self.place, self.file("s.csv", text), "--replace", *words)
+            self.assertEqual(self.scenarios(), [{"name": "x", "loss": [{"bank": "Kemi", "amount": 5}]}], text)
+
     def test_what_is_no_loss_is_refused(self):
         for text, words, told in [
             ('bank,"x ""y"""\nKemi,7\n', [], "is no name of a scenario"),
             ("bank,x\nNobody,7\n", [], "has no bank Nobody"),
+            ("bank,x,\nKemi,5,7\n", [], "s.csv row 1 column without a name: fields stand below it; name it, or say"),
+            ("scenario,Kemi,\nstorm,5,7\n", ["--rows"], "s.csv row 1 column without a name: fields stand below it"),
+            ("bank,,x\nKemi,7,5\nElbe,,\n", [], "s.csv row 1 column without a name: fields stand below it"),
+            ("bank,x\nKemi,5\n", ["--ignore", "nosuch"], "s.csv row 1: no column nosuch; it has x; say --ignore NAME"),
             ("bank,x\nKemi,-7\n", [], "is below 0"),
             ("bank,x\nKemi,seven\n", [], "'seven' is not an amount"),
             ("bank,x\nKemi,1.5\n", ["--share"], "1.5 is no share of cash from 0 to 1"),

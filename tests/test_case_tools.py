@@ -125,6 +125,30 @@ class Imported(Case):
             "clearing-from-matrix", 1, "which is no part of a case", sheet, *PLAIN, "--case", self.place, "--replace"
         )
 
+    def test_what_belongs_to_a_case_that_is_written_over_stays_or_is_told(self):
+        """What the sheets say alone goes with them: the date, and labels of banks that get none."""
+        self.make()
+        case = cc.Case.read(self.place)
+        case.contributors, case.version, case.keep = [{"title": "The desk"}], "2.1", 900
+        case.description, case.others = "By hand.", {"licenses": [{"name": "CC0-1.0"}]}
+        case.write(self.place, replace=True)
+        sheet = self.file("m.csv", MATRIX)
+        told = self.told("clearing-from-matrix", sheet, *PLAIN, "--case", self.place, "--replace")
+        for what, gone in (("the date", "2026-01-31"), ("labels", "2; A, B")):
+            self.assertIn(f"{what} of the case before, not kept: {gone}\n", told)
+        case = cc.Case.read(self.place)
+        self.assertEqual(
+            (case.title, case.description, case.contributors, case.version, case.keep, case.test, case.currency),
+            ("Three banks", "By hand.", ({"title": "The desk"},), "2.1", 900, "liquidity", "EUR"),
+        )
+        self.assertEqual((case.as_of, case.labels, case.others["licenses"]), (None, {}, [{"name": "CC0-1.0"}]))
+        said = [word.replace("EUR", "USD").replace("liquidity", "solvency") for word in SAID]
+        told = self.told("clearing-from-matrix", sheet, *said, *LABELS, "--case", self.place, "--replace")
+        case = cc.Case.read(self.place)
+        self.assertEqual((case.test, case.currency, case.author), ("solvency", "USD", "The desk"))
+        told += self.make("--replace")
+        self.assertNotIn("not kept", told)
+
     def test_nothing_behind_a_link_is_written_over_or_removed(self):
         other = self.folder / "else"
         other.mkdir()

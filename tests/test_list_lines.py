@@ -13,6 +13,9 @@ class Which(ListCase):
         told = self.take("day,debtor,creditor,amount,id\n1,A,B,10,2\n", table="bank,cash,country\nA,1,DE\nB,2,FR\n")
         self.assertIn(f"columns not looked at: 2; day, id in {self.folder}/list.csv\n", told)
         self.assertIn(f"columns not looked at: 1; country in {self.folder}/table.csv\n", told)
+        told = self.take("day,debtor,creditor,amount,\n1,A,B,10,2\n", table="bank,cash,\nA,1,7\nB,2,\n")
+        self.assertIn(f"columns not looked at: 2; day, one without a name in {self.folder}/list.csv\n", told)
+        self.assertIn(f"column not looked at: 1; 7 in all; one without a name in {self.folder}/table.csv\n", told)
 
     def test_lines_that_differ_in_another_column_are_summed_once_it_is_said(self):
         told = (

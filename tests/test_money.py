@@ -74,6 +74,18 @@ class Digits(unittest.TestCase):
             [money.Money(None, "EUR").scale_of([10**9]).number(units) for units in (-(10**6), 1, 0)],
             ["\u22121", "<1", "0"],
         )
+        with decimal.localcontext() as context:
+            context.prec = 3
+            self.assertEqual(money.Money().scale_of([10**9]).number(500_001), "1")
+        for euros, unit in ((money.Money(None, "EUR"), 1), (money.Money(Decimal("0.01"), "EUR"), 100)):
+            table = euros.scale_of([-(10**6) * unit])
+            amounts = [table.number(of * unit) for of in (1, 499, 500, 501, 1500, -1, -499, -500, -501, 0)]
+            small = ["<1", "<1", "<1", "1", "2", "\u2212<1", "\u2212<1", "\u2212<1", "\u22121", "0"]
+            self.assertEqual((table.words, amounts), ("EUR thousand", small))
+            chart = euros.short_scale_of([10**9 * unit])
+            amounts = [chart.number(of * 10**6 * unit) for of in (4, 5, 6, -4, -5, -6, 0)]
+            small = ["<0.01", "<0.01", "0.01", "\u2212<0.01", "\u2212<0.01", "\u22120.01", "0"]
+            self.assertEqual((chart.words, amounts), ("EUR billion", small))
         self.assertEqual(
             [side_by_side.shown(Decimal(text)) for text in ("100", "1E+2", "0.50", "-3.00")],
             ["100", "100", "0.50", "\u22123"],

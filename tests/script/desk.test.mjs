@@ -129,6 +129,15 @@ test("amounts are exact in the currency of a case", () => {
     [thousand.figures(7_572_000).words, thousand.figures(7_572_000).number(1_256_002)].map(plain),
     ["EUR bn", "1.26"],
   );
+  // What is not 0 is not shown as 0, be it half of what is shown, or below 0.
+  assert.deepEqual(
+    [499, 500, 501, -499, -500, -501].map(thousand.scale(1e6).number),
+    ["<1", "<1", "1", "−<1", "−<1", "−1"],
+  );
+  assert.deepEqual(
+    [4000, 5000, 5001, 0, -4000, -5000, -5001, -1e6].map(thousand.figures(9e6).number),
+    ["<0.01", "<0.01", "0.01", "0.00", "−<0.01", "−<0.01", "−0.01", "−1.00"],
+  );
 });
 
 test("a long name is cut after a whole word of four letters or more", () => {
@@ -247,7 +256,7 @@ test("a state of another case stands over the banks of this one", () => {
 
 test("the account of another case has a line for each debtor that is here, the first bank too", async () => {
   const asked = [];
-  const unpaid = [[2, 7, 0, false], [0, 5, 1, false], [1, 3, 0, false], [3, 1, 0, false]];
+  const unpaid = [[2, 7, 0], [0, 5, 1], [1, 3, 0], [3, 1, 0]];
   const there = { whole: 10, loss: 1, unpaid, outside: 2, lost: 0, left: -8 };
   const { fetch } = globalThis;
   globalThis.fetch = async (address) => {

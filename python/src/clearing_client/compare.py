@@ -3,7 +3,7 @@ from __future__ import annotations
 
 from dataclasses import dataclass
 from decimal import Decimal, localcontext
-from typing import Dict, List, NamedTuple, Optional, Union
+from typing import Dict, List, NamedTuple, Optional, Sequence, Union
 
 from .case import Case
 from .decimals import exact
@@ -76,11 +76,17 @@ def compare(before: Union[Case, Network], after: Union[Case, Network]) -> Compar
     (['A', 'B'], -2)
     """
     first, second = as_case(before), as_case(after)
-    if first.currency and second.currency and first.currency != second.currency:
-        raise CaseError("", "clearing.currency", f"the cases are in {first.currency} and {second.currency}")
+    check_currencies([first, second])
     one, other = holdings_of(first), holdings_of(second)
     records = [difference_of(bank, one.get(bank), other.get(bank)) for bank in dict.fromkeys([*one, *other])]
     return Comparison(first, second, Table.of(Difference, records))
+
+
+def check_currencies(cases: Sequence[Case]) -> None:
+    """Refuses cases whose amounts are in several currencies, and cannot be put side by side."""
+    currencies = list(dict.fromkeys(case.currency for case in cases if case.currency))
+    if len(currencies) > 1:
+        raise CaseError("", "clearing.currency", f"the cases are in {' and '.join(currencies)}")
 
 
 def as_case(one: Union[Case, Network]) -> Case:

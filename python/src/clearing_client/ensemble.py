@@ -9,7 +9,7 @@ from decimal import Decimal
 from typing import Callable, Dict, Iterable, List, NamedTuple, Optional, Sequence, Tuple, Union
 
 from .case import Case
-from .compare import as_case
+from .compare import as_case, check_currencies
 from .errors import CaseError
 from .network import Network
 from .program import processors
@@ -129,7 +129,8 @@ TASKS: Dict[str, Callable[[Case, Optional[int]], Answer]] = {
 def ensemble(
     cases: Iterable[Union[Case, Network]], tasks: Union[str, Sequence[str]] = "defaults", keep: Optional[int] = None
 ) -> Ensemble:
-    """What tasks (`defaults`, `costs`, `breaking`, `impact`, `rescues`) say over many networks, run side by side.
+    """What tasks (`defaults`, `costs`, `breaking`, `impact`, `rescues`) say over many networks, run side by side. Fails
+    with `CaseError` where the cases are in several currencies.
 
     >>> nets = [Network({"A": cash, "B": 0}, {("A", "B"): 10}) for cash in (8, 9, 10)]
     >>> done = ensemble(nets)
@@ -145,6 +146,7 @@ def ensemble(
             raise ValueError(f"{task!r} is not one of {', '.join(TASKS)}")
     if not cases_given:
         raise ValueError("there is no network")
+    check_currencies(cases_given)
     spreads: List[Spread] = []
     shares: List[Share] = []
     with ThreadPoolExecutor(processors()) as pool:

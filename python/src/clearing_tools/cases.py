@@ -3,7 +3,7 @@ import argparse
 import os
 import sys
 from decimal import Decimal
-from typing import List, NamedTuple, Optional
+from typing import List, NamedTuple, Optional, Sequence
 
 from clearing_client import description
 from clearing_client.case import Case
@@ -209,6 +209,11 @@ def inputs_of(case: Case) -> List[str]:
 def names_of(case: Case) -> FullNames:
     """The full names of a case, where it has any."""
     return FullNames({bank: label.full for bank, label in case.labels.items() if label.full})
+
+
+def names_of_all(several: Sequence[Case]) -> FullNames:
+    """The full names of several cases. The last case that has one for a bank decides."""
+    return FullNames({bank: full for case in several for bank, full in names_of(case).full.items()})
 
 
 def money_of(case: Case) -> Money:

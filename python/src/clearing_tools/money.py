@@ -156,5 +156,7 @@ class Scale:
         if not units:
             return "0"
         value = self.money.worth(units, self.size)
-        least = Decimal(f"1e-{self.places}")
-        return f"<{least}" if 0 < 2 * value < least else f"{value:,.{self.places}f}".replace("-", "\u2212")
+        least, size = Decimal(f"1e-{self.places}"), value.copy_abs()
+        # Half of the least would be rounded to the even number, which is 0.
+        text = f"<{least}" if size <= least / 2 else f"{size:,.{self.places}f}"
+        return f"\u2212{text}" if value < 0 else text

@@ -29,7 +29,7 @@ def compare_cases(args: argparse.Namespace) -> int:
     keep_apart(both, [args.output, args.page])
     comparison = answer_or_end(lambda: compare(*both))
     one_unit = set(answer_or_end(lambda: [*unsteady(both[0]), *unsteady(both[1])]))
-    names = cases.names_of(both[1]) if both[1].labels else cases.names_of(both[0])
+    names = cases.names_of_all(both)
     records = [[*record_of(bank, names), NOTE if bank.bank in one_unit else ""] for bank in comparison.banks]
     if args.page:
         inputs = [name for case in both for name in cases.inputs_of(case)]

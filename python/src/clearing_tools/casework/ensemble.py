@@ -48,7 +48,7 @@ def ask_many(args: argparse.Namespace) -> int:
     several = read_all(args.cases)
     keep_apart(several, [args.output, args.picture])
     answer = answer_or_end(lambda: ensemble(several, args.task or "defaults", args.default_keeps))
-    names = cases.names_of(several[0])
+    names = cases.names_of_all(several)
     if pyplot:
         style.save(draw(pyplot, answer, names, args.most), args.picture, folders=False)
     write_tables(tables_of(answer, names), args.output)

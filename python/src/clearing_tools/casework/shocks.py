@@ -94,9 +94,10 @@ def take_scenarios(args: argparse.Namespace) -> int:
 def scenarios_of(table: Table, case: Case, args: argparse.Namespace, faults: Faults, summary: Summary) -> Scenarios:
     """The scenarios of a sheet, in its order."""
     cash = {bank: account.cash for bank, account in read_accounts(case.paths["banks"])[1].items()}
-    losses = list(losses_of(table, args, faults))
+    columns = columns_in(table, args, faults)
+    losses = list(losses_of(table, columns, args, faults))
     check_banks(table, losses, cash, case, faults, args)
-    names = names_in(table, args, faults)
+    names = names_in(table, columns, args, faults)
     faults.end_if_any()
     whole = WholeLosses(names, Fraction(case.unit) / (args.amounts_in or 1))
     for loss in losses:
@@ -109,9 +110,22 @@ def scenarios_of(table: Table, case: Case, args: argparse.Namespace, faults: Fau
     return Scenarios([Scenario(name, losses=whole.units[name]) for name in names])
 
 
-def names_in(table: Table, args: argparse.Namespace, faults: Faults) -> List[str]:
+def columns_in(table: Table, args: argparse.Namespace, faults: Faults) -> List[str]:
+    """The columns of a sheet that are looked at. One that has fields and no name is refused, and so is an --ignore of a
+    column that is not there."""
+    for column in args.ignore:
+        tables.need_column(faults, table, "ignore", column)
+    columns = [column for column in table.header if column not in args.ignore]
+    if "" in columns:
+        columns.remove("")
+        if any(table.column("").values()):
+            faults.at_header(table, "without a name", "fields stand below it; name it, or say --ignore ''")
+    return columns
+
+
+def names_in(table: Table, columns: List[str], args: argparse.Namespace, faults: Faults) -> List[str]:
     """The names of the scenarios of a sheet. Those that are none are refused, and so are too many."""
-    names = list(table.rows) if args.rows else [name for name in table.header if name and name not in args.ignore]
+    names = list(table.rows) if args.rows else columns
     for name in names:
         if not is_name(name):
             what = f"{name!r} is no name of a scenario: 1 to 64 bytes, no comma, quote or control character"
@@ -158,13 +172,11 @@ class WholeLosses:
             summary.tell("losses above the cash of the bank, which then loses it all", self.above)
 
 
-def losses_of(table: Table, args: argparse.Namespace, faults: Faults) -> Iterator[Loss]:
-    """The losses of a sheet that are not 0."""
+def losses_of(table: Table, columns: List[str], args: argparse.Namespace, faults: Faults) -> Iterator[Loss]:
+    """The losses in some columns of a sheet that are not 0."""
     reader = Amounts(args.decimal or ("." if args.share and not args.thousands else None), args.thousands)
     for name, row in table.rows.items():
-        for column in table.header:
-            if column in args.ignore or not column:
-                continue
+        for column in columns:
             amount = amount_of(table, name, column, reader, args.share, faults)
             if amount:
                 scenario, bank = (name, column) if args.rows else (column, name)

@@ -64,7 +64,8 @@ def page_of(comparison: Comparison, names: FullNames, one_unit: Container[str] =
 def currency_of(comparison: Comparison) -> str:
     """What the amounts of both cases are in."""
     before, after = comparison.before, comparison.after
-    return after.currency or before.currency or ("units" if after.unit == 1 else "the currency")
+    is_in_units = before.unit == after.unit == 1
+    return after.currency or before.currency or ("units" if is_in_units else "the currency")
 
 
 def title_of(case: Case, otherwise: str) -> str:

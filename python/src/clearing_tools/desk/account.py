@@ -10,13 +10,11 @@ from .state import Base
 
 
 class Line(NamedTuple):
-    """What one debtor leaves unpaid of its claims, all classes together. `comes_later` is whether all of them are of a
-    class behind another one of the debtor's, which comes first."""
+    """What one debtor leaves unpaid of its claims, all classes together."""
 
     debtor: int
     claim: int
     paid: int
-    comes_later: bool
 
 
 class Account(NamedTuple):
@@ -63,31 +61,27 @@ def debts_by(base: Base, cleared: Cleared) -> Tuple[Entries, Entries]:
     return owes, owed
 
 
-def account_by(base: Base, cleared: Cleared, bank: int, owes: Entries, owed: List[Entry]) -> Account:
-    """The account of a bank in a state, of what it owes and is owed. Fails where it does not come to what the program
+def account_by(base: Base, cleared: Cleared, bank: int, owed: List[Entry]) -> Account:
+    """The account of a bank in a state, of what it is owed. Fails where it does not come to what the program
     says that the bank keeps or leaves unpaid."""
     one = cleared.banks[bank]
     outside = one.outside or 0
     claims = sum(debt.claim for debt in owed)
     whole = base.banks[bank].cash + claims - one.owed
     loss = base.banks[bank].cash - cleared.left[bank]
-    unpaid = lines_of(owes, owed)
+    unpaid = lines_of(owed)
     left = whole - loss - sum(line.claim - line.paid for line in unpaid) - outside - cleared.lost[bank]
     if left != one.equity - (one.owed - one.paid) - (outside - one.outside_paid):
         raise runner.ToolError(f"the account of {runner.shown(one.name)} does not come to what the program says")
     return Account(whole, loss, unpaid, outside, cleared.lost[bank], left)
 
 
-def lines_of(owes: Entries, owed: List[Entry]) -> List[Line]:
+def lines_of(owed: List[Entry]) -> List[Line]:
     """What each debtor leaves unpaid, the most first."""
     sums: Dict[int, List[int]] = {}
-    for _, debtor, _, class_, claim, paid in owed:
-        one = sums.setdefault(debtor, [0, 0, class_])
+    for _, debtor, _, _, claim, paid in owed:
+        one = sums.setdefault(debtor, [0, 0])
         one[0] += claim
         one[1] += paid
-        one[2] = min(one[2], class_)
-    lines = [
-        Line(debtor, claim, paid, paid == 0 and any(debt.class_ < class_ for debt in owes.get(debtor, [])))
-        for debtor, (claim, paid, class_) in sums.items() if paid < claim
-    ]
+    lines = [Line(debtor, claim, paid) for debtor, (claim, paid) in sums.items() if paid < claim]
     return sorted(lines, key=lambda line: (line.paid - line.claim, line.debtor))

@@ -150,7 +150,7 @@ def bank_view(base: Base, cleared: Cleared, bank: int) -> Dict[str, object]:
     return {
         "owes": [[key, creditor, *rest] for key, _, creditor, *rest in owes.get(bank, [])],
         "owed": [[key, debtor, *rest] for key, debtor, _, *rest in owed.get(bank, [])],
-        "account": account.account_by(base, cleared, bank, owes, owed.get(bank, [])).view(),
+        "account": account.account_by(base, cleared, bank, owed.get(bank, [])).view(),
     }
 
 

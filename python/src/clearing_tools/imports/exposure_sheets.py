@@ -7,7 +7,7 @@ from .amounts import Amount, AmountError
 from .columns import Columns, columns_of, find_column, need_usual
 from .faults import Faults
 from .groups import read_classes
-from .left_out import Rates, tell_columns
+from .left_out import Rates, columns_shown, tell_columns
 from .sheet_options import ListOptions
 from .summary import Summary
 from .tables import Cells, Listing, Table, need_column, pair_of
@@ -82,7 +82,7 @@ class ExposureSheets:
         unlooked = [column for column in self.unlooked() if column not in self.columns.where]
         for label, columns in ((self.list.label, unlooked), (self.table.label, self.others)):
             if columns:
-                detail = f"{', '.join(columns)} in {label}"
+                detail = f"{columns_shown(columns)} in {label}"
                 self.summary.tell("columns not looked at", len(columns), None, detail, step="leftOut")
         what = "amounts in a column not looked at"
         tell_columns(self.summary, self.others, self.table, self.args.amounts, what)

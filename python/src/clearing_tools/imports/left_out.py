@@ -125,6 +125,11 @@ def sum_of_column(table: AnySheet, column: str, amounts: Amounts) -> Optional[Co
     return counted if counted.count else None
 
 
+def columns_shown(columns: Iterable[str]) -> str:
+    """Some columns in a line of what was done; one may have no name."""
+    return ", ".join(column or "one without a name" for column in columns)
+
+
 def tell_columns(
     summary: Summary, columns: Iterable[str], table: AnySheet, new_amounts: Callable[[], Amounts], what: str
 ) -> None:
@@ -132,7 +137,7 @@ def tell_columns(
     for column in columns:
         counted = sum_of_column(table, column, new_amounts()) if column in table else None
         if counted is not None:
-            counted.tell(summary, what, f"{column} in {table.label}")
+            counted.tell(summary, what, f"{columns_shown([column])} in {table.label}")
 
 
 # Currencies

@@ -28,13 +28,15 @@ from .units import Network
 WRITTEN = ("case", "replace", "banks", "debts", "out", "label", "summary", "keep-sources")
 """Words that say where something is written, and nothing of what."""
 REFUSED = 1
+MOST_TOLD = 5
+"""So many labels that go are told by name."""
 
 
 def add_case_words(parser: argparse.ArgumentParser) -> None:
     """The words that make a case of what is imported, and say what belongs to it."""
     add = parser.add_argument
     add("--case", metavar="FOLDER", help="the case to write: a folder with the two files and what belongs to them")
-    add("--replace", action="store_true", help="write over a case that is there; its scenarios stay")
+    add("--replace", action="store_true", help="write over a case that is there; date and labels go, all else stays")
     add("--keep-sources", action="store_true", help="copies of the sheets in the case")
     add("--title", metavar="TEXT", help="the title of the case")
     add("--as-of", metavar="DATE", type=date_in, help="the date of the amounts, YYYY-MM-DD")
@@ -147,23 +149,44 @@ class CaseOfSheets:
         return {os.path.join(self.folder, name): data for name, data in contents.items()}
 
     def case_of(self, names: Mapping[str, str], before: Optional[Case], summary: Summary) -> Case:
-        """The case, which keeps what belongs to the one that it is written over."""
+        """The case, which keeps what belongs to the one that it is written over and not to its sheets. Its date and
+        labels are those of the sheets alone; that they go is told."""
+        tell_gone(summary, before, self.labels, self.options)
         options, scale = self.options, self.options.amounts_in or Fraction(1)
         banks, debts = self.texts
         sheets = f"{cases.SHEETS}/" if options.is_kept else ""
-        return Case(
+        case = Case(
             cases.network_of(banks.encode(), debts.encode()),
             title=options.title or (before.title if before else ""),
             description=before.description if before else "",
             as_of=options.as_of,
-            test=options.test,
-            currency=options.currency,
+            test=options.test or (before.test if before else None),
+            currency=options.currency or (before.currency if before else None),
             unit=decimal_of(self.unit * scale),
+            keep=before.keep if before else None,
             labels=self.labels,
             scenarios=before.scenarios if before else None,
+            contributors=before.contributors if before else (),
+            version=before.version if before else None,
             sources=[Source(name, f"{sheets}{name}" if sheets else "", hash_of(path)) for path, name in names.items()],
             summary=summary.of_case(command_of(self.tool, options.line, names, options.is_kept), scale),
         )
+        case.others = before.others if before else {}
+        return case
+
+
+def tell_gone(summary: Summary, before: Optional[Case], labels: Sequence[Label], options: CaseOptions) -> None:
+    """Tells what goes with a case that is written over: its date, and labels, where nothing is in their place."""
+    if before is None:
+        return
+    if before.as_of and not options.as_of:
+        summary.tell("the date of the case before, not kept", detail=before.as_of.isoformat(), step="leftOut")
+    gone = set(before.labels) - {label.bank for label in labels}
+    some = [bank for bank in before.labels if bank in gone]
+    if some:
+        more = f" and {len(some) - MOST_TOLD:,} more" if len(some) > MOST_TOLD else ""
+        detail = f"{', '.join(some[:MOST_TOLD])}{more}"
+        summary.tell("labels of the case before, not kept", len(some), detail=detail, step="leftOut")
 
 
 def replaced(folder: str, is_replaced: bool) -> Optional[Case]:

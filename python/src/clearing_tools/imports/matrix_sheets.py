@@ -4,7 +4,7 @@ from typing import Dict, List, NamedTuple, Optional, Sequence, Set
 from . import made_case
 from .columns import Columns, alike, columns_of, take_alike
 from .faults import HEADER, Faults
-from .left_out import Rates, ask_currencies, currencies_in, is_of_currencies, tell_columns
+from .left_out import Rates, ask_currencies, columns_shown, currencies_in, is_of_currencies, tell_columns
 from .sheet_options import MatrixOptions
 from .summary import Summary
 from .tables import Table, need_column
@@ -95,7 +95,7 @@ class MatrixSheets:
     def tell_others(self) -> None:
         """Tells the columns that are not looked at, and the amounts in them."""
         if self.others:
-            names = ", ".join(self.others)
+            names = columns_shown(self.others)
             self.summary.tell("columns not looked at", len(self.others), None, names, step="leftOut")
             what = "amounts in a column not looked at"
             tell_columns(self.summary, self.others, self.table, self.args.amounts, what)

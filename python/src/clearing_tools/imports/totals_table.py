@@ -8,8 +8,8 @@ from .columns import columns_of, need_usual
 from .control import TotalLines
 from .faults import Faults
 from .left_out import (
-    Gone, Rates, ask_currencies, beside_of, currencies_in, no_line_to_drop, no_line_to_leave_out, no_total,
-    tell_columns,
+    Gone, Rates, ask_currencies, beside_of, columns_shown, currencies_in, no_line_to_drop, no_line_to_leave_out,
+    no_total, tell_columns,
 )
 from .sheet_options import TotalsOptions
 from .summary import Summary, tell_read
@@ -73,7 +73,7 @@ class TotalsTable:
         others = [column for column in table.header if column not in used or column in self.columns.passed]
         if others:
             what = "amounts in a column not looked at"
-            self.summary.tell("columns not looked at", len(others), None, ", ".join(others), step="leftOut")
+            self.summary.tell("columns not looked at", len(others), None, columns_shown(others), step="leftOut")
             tell_columns(self.summary, others, table, args.amounts, what)
         for column in others:
             if currencies_in(table, column) and not args.is_rate(column) and column not in args.ignore:

@@ -15,7 +15,7 @@ const ELSEWHERE = -1; // the debtors that the case held against has alone
  * @property {number} loss
  * @property {number} outside
  * @property {number} lost
- * @property {[number, number, number, boolean][]} unpaid debtor, claim, what is paid, whether the debt comes later
+ * @property {[number, number, number][]} unpaid debtor, claim, what is paid
  * @property {number} left
  */
 

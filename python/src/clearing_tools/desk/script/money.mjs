@@ -3,6 +3,7 @@ import { decimal, minus } from "./texts.mjs";
 
 const SPACE = "\u00a0"; // a number and its unit do not part
 const TWO_DECIMALS = new Intl.NumberFormat("en-US", { minimumFractionDigits: 2, maximumFractionDigits: 2 });
+const HALF = 0.5, HALF_A_HUNDREDTH = 0.005;
 const BILLION = 1e9, MILLION = 1e6, THOUSAND = 1e3;
 const SIZES = [[BILLION, "billion"], [MILLION, "million"], [THOUSAND, "thousand"]]; // of a table
 const POWERS = [[9, "billion"], [6, "million"], [3, "thousand"]]; // of ten, of an account
@@ -104,7 +105,7 @@ export class Money {
   }
 
   /**
-   * The scale of large figures, with two decimals in billions.
+   * The scale of large figures, with two decimals in billions. An amount that is not 0 is never shown as 0.
    * @param {number} most the largest of them, in units of account
    * @returns {Scale}
    */
@@ -114,9 +115,15 @@ export class Money {
   }
 }
 
-const fixed = (value) => `${value < 0 ? "−" : ""}${TWO_DECIMALS.format(Math.abs(value))}`;
+// What is not 0 is never shown as 0: half of the least that is shown, and what is below it, is less than that.
+const signed = (value, text) => `${value < 0 ? "−" : ""}${text}`;
+
+const fixed = (value) => {
+  const size = Math.abs(value);
+  return signed(value, size && size <= HALF_A_HUNDREDTH ? "<0.01" : TWO_DECIMALS.format(size));
+};
 
 const shortened = (value) => {
-  const rounded = Math.round(value);
-  return value && !rounded ? `${value < 0 ? "−" : ""}<1` : minus(rounded);
+  const size = Math.abs(value);
+  return size && size <= HALF ? signed(value, "<1") : minus(Math.round(value));
 };
