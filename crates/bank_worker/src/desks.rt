@@ -15,7 +15,7 @@ use std::alloc::Global;
 use std::marker::Model;
 
 /// The desks of a worker, in file order, and beside them the bank of each, as a list and as a set,
-/// so that a sweep reaches no desk whose bell is down.
+/// so that a sweep passes over the desks of banks that are not called.
 #[derive(Drop)]
 pub struct Desks {
     desks: Vec<Desk>,
@@ -94,9 +94,9 @@ impl Desks {
         self.banks.as_slice()
     }
 
-    /// A place from this one on between which and this one no desk's bank is called, and past all
-    /// desks if there is none: the place of the next desk whose bank is. Costs a look at each word
-    /// of a set between them.
+    /// Where to go on from this place: between it and the answer no desk is of a called bank. The
+    /// answer is the place of the next desk that is of one, or past all desks if there is none.
+    /// Costs a look at each word of a set between them.
     pub fn next_called(&self, called: &BankSet, from: usize) -> usize
         requires from { from ≤ length self.now }
         ensures ahead { from ≤ result }

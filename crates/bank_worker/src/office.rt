@@ -20,7 +20,7 @@ use std::alloc::Global;
 use std::marker::Model;
 use std::mem;
 
-// The room of so many raises is kept for the next seat.
+// A journal of at most so many raises leaves its room to the next seat.
 const FEW_RAISES: usize = 64;
 
 /// What a worker has beside its seat, and keeps from round to round: a desk for each of its banks

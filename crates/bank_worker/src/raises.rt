@@ -37,7 +37,7 @@ pub(crate) fn raise_all(
     let mut units = 0;
     for (place, id) in debts.iter().enumerate() {
         let to = targets[place];
-        let before = seat.paid(*id);
+        let before = seat.pays(*id);
         if before < to {
             let stamp = board.raise(seat, *id, to);
             let raise = Raise {

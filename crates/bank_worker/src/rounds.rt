@@ -21,7 +21,7 @@ impl Worker {
     /// Makes a round over the called banks of the worker: so many sweeps over their desks, in
     /// order, each of which takes each bell that is up, and visits that desk. Ends early after a
     /// sweep that found no bell up. Answers the units of all visits, or `Mem` at the first visit
-    /// that answers so, and then takes no bell and makes no visit.
+    /// that answers so: the bell of its bank was taken, and after it nothing is done.
     ///
     /// Before each sweep the banks of `anew`, if any, are called anew: all of them where other
     /// workers may ring meanwhile. A bank that was never visited, or that may not have seen what

@@ -86,7 +86,7 @@ impl Worker {
         self.office.desks().len()
     }
 
-    /// How many visits were made.
+    /// How many visits were begun. One that answered `Mem` counts too.
     pub fn visits(&self) -> u64
         ensures { result ≡ self.now.visits }
     {
@@ -98,7 +98,8 @@ impl Worker {
     /// the network, and rings each creditor that is paid more. Answers by how many units it pays
     /// more.
     ///
-    /// `Mem` is want of memory, and comes before the first look.
+    /// `Mem` is want of memory, and comes before the first look: the worker has begun a visit more,
+    /// and is else as it was.
     pub fn visit<G: Gate>(&mut self, board: &Board, place: usize, gate: &G) -> Visit
         requires seat { IsAt board.now self.old.seat }
         requires place { place < length self.old.desks }

@@ -1,5 +1,8 @@
-//! What the program does not call, for whoever calls the crate: a look by the number of a debt. A
-//! visit looks at all debts to a bank, knows where their words stand, and calls [`Board::look_at`].
+//! What the program does not call, for whoever calls the crate.
+//!
+//! A look by the number of a debt: a visit looks at all debts to a bank, knows where their words
+//! stand, and calls [`Board::look_at`]. And what any seat shows as paid, be it the master: a visit
+//! has the seat of a worker, and calls [`PaySeat::pays`].
 ghost use Rattle.clear_core.specs.Clearing.{least};
 ghost use Rattle.clr_net.specs.Net.{creditor_of, debtor_of};
 ghost use Rattle.pay_words.specs.Holding.{holds};
@@ -34,5 +37,28 @@ impl Board {
             } }
     {
         self.look_at(seat, debt, self.positions.of_debt(debt))
+    }
+}
+
+impl PaySeat {
+    /// What the seat shows as paid on a debt of one of its banks, in units. No atomic step, and
+    /// takes no memory.
+    pub fn paid(&self, debt: DebtId) -> u64
+        requires debt { debt.0 < length self.now.shows.net.debts }
+        requires debtor { holds self.now.shows (debtor_of self.now.shows.net debt.0) ≡ true }
+        ensures { result ≡ slice_index self.now.shows.paid debt.0 }
+    {
+        if self.is_the_master() {
+            let worker = self.debtors[debt.0 as usize] % self.workers;
+            return self.lists[worker as usize].at(debt.0);
+        }
+        self.pays(debt)
+    }
+
+    // Whether it is the master, which alone has lists: one for each worker, and there is a worker.
+    fn is_the_master(&self) -> bool
+        ensures { result ≡ self.now.shows.master }
+    {
+        !self.lists.is_empty()
     }
 }

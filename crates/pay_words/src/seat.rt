@@ -5,7 +5,7 @@ ghost use Rattle.clr_net.specs.Net.{debtor_of};
 ghost use Rattle.clr_net.specs.declared.TheConstants.{MAX_OWED};
 ghost use Rattle.pay_words.specs.Holding.{holds};
 ghost use Rattle.pay_words.specs.Sound.{IsOver, PaysWithin};
-ghost use Rattle.std.specs.Prelude.{◌≡◌, ◌<◌, ◌≤◌, length, slice_index, true};
+ghost use Rattle.std.specs.Prelude.{◌≡◌, ◌<◌, ◌≤◌, false, length, slice_index, true};
 
 use crate::paid::Paid;
 use crate::view::View;
@@ -64,24 +64,14 @@ impl PaySeat {
         self.clock
     }
 
-    /// What the seat shows as paid on a debt of one of its banks, in units. No atomic step, and
-    /// takes no memory.
-    pub fn paid(&self, debt: DebtId) -> u64
+    /// What the seat of a worker shows as paid on a debt of one of its banks, in units. No atomic
+    /// step, and takes no memory.
+    pub fn pays(&self, debt: DebtId) -> u64
+        requires not_the_master { self.now.shows.master ≡ false }
         requires debt { debt.0 < length self.now.shows.net.debts }
         requires debtor { holds self.now.shows (debtor_of self.now.shows.net debt.0) ≡ true }
         ensures { result ≡ slice_index self.now.shows.paid debt.0 }
     {
-        if self.is_the_master() {
-            let worker = self.debtors[debt.0 as usize] % self.workers;
-            return self.lists[worker as usize].at(debt.0);
-        }
         self.own.at(debt.0)
-    }
-
-    // Whether it is the master, which alone has lists: one for each worker, and there is a worker.
-    fn is_the_master(&self) -> bool
-        ensures { result ≡ self.now.shows.master }
-    {
-        !self.lists.is_empty()
     }
 }
