@@ -105,9 +105,12 @@ impl Worker {
         self.office.desks().next_called(called, from)
     }
 
-    // The bank of the last desk, or the first bank of all where there is no desk.
+    // The bank of the last desk, or the first bank of all where there is no desk: no desk is of a
+    // later one.
     fn last(&self) -> BankId
-        ensures { result.0 < MAX_BANKS }
+        ensures few { result.0 < MAX_BANKS }
+        ensures none_after { (k : ℕ) → k < length self.now.desks
+            → (desk_at self.now.desks k).bank ≤ result.0 }
     {
         let desks = self.desks();
         if desks == 0 {

@@ -4,10 +4,10 @@ ghost use Rattle.bank_worker.specs.Rings.{AreMarksBelow, AreMarksUpTo, creditors
 ghost use Rattle.clear_core.specs.Buffers.{HasRoom};
 ghost use Rattle.clr_net.specs.Net.{creditor_of};
 ghost use Rattle.clr_net.specs.declared.TheConstants.{MAX_OWED};
-ghost use Rattle.std.specs.Prelude.{◌≡◌, ◌<◌, ◌≤◌, IfOk, length, vec_capacity};
+ghost use Rattle.std.specs.Prelude.{◌≡◌, ◌<◌, ◌≤◌, IfOk, length, vec_capacity, vec_len};
 
 use bank_desk::Desk;
-use clear_core::{Raise, blank, longest_row};
+use clear_core::{Raise, longest_row};
 use clr_net::{DebtId, MAX_BANKS, Mem, Network};
 use std::alloc::Global;
 
@@ -108,6 +108,18 @@ pub(crate) fn lay_out(desk: &Desk, received: u64, targets: &mut Vec<u64>)
     ensures targets { targets.new.items ≡ target desk.now received }
     ensures room { vec_capacity targets.old ≤ vec_capacity targets.new }
 {
-    blank(targets, desk.debts_out().len());
+    set_places(targets, desk.debts_out().len());
     desk.target(received, targets.as_mut_slice());
+}
+
+// Gives a list so many places, for which it has the room. What stands in them means nothing until
+// it is written.
+fn set_places(targets: &mut Vec<u64>, places: usize)
+    requires { places ≤ vec_capacity targets.old }
+    ensures places { vec_len targets.new ≡ places }
+    ensures room { vec_capacity targets.old ≤ vec_capacity targets.new }
+{
+    let Ok(()) = targets.resize(places, 0) else {
+        unreachable!()
+    };
 }

@@ -34,5 +34,5 @@ pub use payments::{Payments, Sums};
 pub use plain::{State, is_quiet, share_of};
 pub use quiet::first_unquiet;
 pub use receipts::{estate_of, paid_by, receipts_of, spend, spendable};
-pub use row_buffer::{blank, lay_out_row};
+pub use row_buffer::lay_out_row;
 pub use scratch::{Scratch, longest_row};

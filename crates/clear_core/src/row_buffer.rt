@@ -54,7 +54,7 @@ impl RowBuffer {
         ensures room { self.new.room ≡ self.old.room }
     {
         lay_out_row(net, bank, &mut self.claims, &mut self.classes);
-        blank(&mut self.awards, net.row(bank).len());
+        set_places(&mut self.awards, net.row(bank).len());
         divide_laid_out(
             net,
             bank,
@@ -93,8 +93,9 @@ pub fn lay_out_row(net: &Network, bank: BankId, claims: &mut Vec<u64>, classes: 
     }
 }
 
-/// Writes so many zeros over a list that has the room for them. Takes no memory.
-pub fn blank(amounts: &mut Vec<u64>, places: usize)
+// Gives a list so many places, for which it has the room. What stands in them means nothing until
+// it is written.
+fn set_places(amounts: &mut Vec<u64>, places: usize)
     requires { places ≤ vec_capacity amounts.old }
     ensures places { vec_len amounts.new ≡ places }
     ensures room { vec_capacity amounts.new ≡ vec_capacity amounts.old }

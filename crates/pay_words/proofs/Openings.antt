@@ -11,6 +11,7 @@ use Rattle.clr_net.specs.Amounts.{IsAtMost}
 use Rattle.clr_net.specs.Limits.{IsNetwork}
 use Rattle.clr_net.specs.Net.{Net, debtor_of, debt_numbers}
 use Rattle.clear_core.specs.Clearing.{least}
+use Rattle.clear_core.specs.declared.event.Raise.{Raise}
 use Rattle.pay_words.specs.declared.payment.TheConstants.{STAMP}
 use Rattle.pay_words.specs.declared.origin.Origin.{Origin}
 use Rattle.pay_words.specs.declared.payment.Payment.{Payment}
@@ -18,7 +19,7 @@ use Rattle.pay_words.specs.declared.view.View.{View}
 use Rattle.pay_words.specs.Making.{AreOpening}
 use Rattle.pay_words.specs.Words.{unpaid, word_of}
 use Rattle.pay_words.specs.Belongs.{Belongs}
-use Rattle.pay_words.specs.Traces.{Traces, AreLawfulTraces, ending, raises_of, total}
+use Rattle.pay_words.specs.Traces.{Traces, AreLawfulTraces, ending, last_payment, raises_of, total}
 use Rattle.pay_words.specs.Sound.{IsSound}
 use Rattle.pay_words.specs.Seating.{greatest, opening}
 use Rattle.pay_words.specs.BoardRule.{BoardHistory, Suits, MeetsRule, opening_view}
@@ -49,6 +50,17 @@ greatest_above (n ∷ ns) (suc x) = let rest = greatest_above ns x in omega arit
 pub greatest_most : (ns : List ℕ) (k : ℕ) → ((x : ℕ) → x < length ns → slice_index ns x ≤ k) → greatest ns ≤ k
 greatest_most [] k h = zero-le
 greatest_most (n ∷ ns) k h = let rest = greatest_most ns k (λ x lt. h (suc x) (omega (arith, lt))) in let first : n ≤ k = h 0 (omega arith) in omega arith
+
+-- where nothing was raised before a board, no stamp is there
+pub clock_of_none : (net : Net) (start : List Payment) (past : List Raise) → Belongs net start past → past ≡ []
+    → greatest (map (λ p. p.stamp) start) ≡ 0
+clock_of_none net start past h none =
+    omega (
+      arith,
+      greatest_most (map (λ p. p.stamp) start) 0 (λ x lt.
+          le_of_eq (at_first net start past h (λ p. p.stamp) x (omega (arith, lt, over_first net start past h (λ p. p.stamp)))
+          ∙ ap (λ (rs : List Raise). (last_payment x rs).stamp) none)),
+    )
 
 module _ (d : Origin) (start : List Payment) (network : IsNetwork d.net) (h : Belongs d.net start d.past) where
   -- the network

@@ -8,7 +8,7 @@ ghost use Rattle.pay_words.specs.Seating.{opening};
 ghost use Rattle.pay_words.specs.Views.{IsAt};
 ghost use Rattle.std.specs.Prelude.{◌≡◌, ◌≤◌, ◌++◌, IfOk, length, true};
 
-use crate::opening::{debtors_of, greatest_stamp, opening_words};
+use crate::opening::{debtors_of, opening_clock, opening_words};
 use crate::origin::{Founding, Origin, origin_of};
 use crate::paid::Paid;
 use crate::payment::Payment;
@@ -115,7 +115,7 @@ impl Board {
             own: Paid::none(alloc),
             lists,
             debtors,
-            clock: greatest_stamp(start),
+            clock: opening_clock(start, past),
             seats: 0,
             workers,
             worker: 0,

@@ -4,10 +4,11 @@ ghost use Rattle.pay_words.specs.Making.{AreOpening};
 ghost use Rattle.pay_words.specs.Positions.{ArePositions};
 ghost use Rattle.pay_words.specs.Seating.{greatest};
 ghost use Rattle.pay_words.specs.Words.{word_of};
-ghost use Rattle.std.specs.Prelude.{◌≡◌, ◌^◌, ◌<◌, All, IfOk, length, map};
+ghost use Rattle.std.specs.Prelude.{◌≡◌, ◌^◌, ◌<◌, [], All, IfOk, length, map};
 
 use crate::payment::Payment;
 use crate::positions::Positions;
+use clear_core::Raise;
 use clr_net::{DebtId, Network};
 use std::alloc::{AllocError, Global};
 
@@ -34,8 +35,20 @@ pub(crate) fn opening_words(
     Ok(words)
 }
 
-/// The greatest of the stamps, or 0.
-pub(crate) fn greatest_stamp(start: &[Payment]) -> u64
+/// The clock of a new board: the greatest stamp of the payments that its past leaves, or 0. Where
+/// nothing was raised before, it costs no walk.
+pub(crate) fn opening_clock(start: &[Payment], past: &[Raise]) -> u64
+    requires { past.now ≡ [] → greatest (map (λ p. p.stamp) start.now) ≡ 0 }
+    ensures { result ≡ greatest (map (λ p. p.stamp) start.now) }
+{
+    if past.is_empty() {
+        return 0;
+    }
+    greatest_stamp(start)
+}
+
+// The greatest of the stamps, or 0.
+fn greatest_stamp(start: &[Payment]) -> u64
     ensures { result ≡ greatest (map (λ p. p.stamp) start.now) }
 {
     let mut stamp = 0;

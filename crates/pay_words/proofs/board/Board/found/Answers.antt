@@ -7,7 +7,7 @@ use Rattle.pay_words.specs.BoardRule.{MeetsRule, opening_view}
 use Rattle.pay_words.specs.Making.{AreOpening}
 use Rattle.pay_words.specs.Positions.{ArePositions}
 use Rattle.pay_words.specs.Memory.{IsInMemory, IsLaidOut, seat_memory}
-use Rattle.pay_words.proofs.Openings.{opens_past, start_fits, start_values_fit, kept_opening}
+use Rattle.pay_words.proofs.Openings.{clock_of_none, opens_past, start_fits, start_values_fit, kept_opening}
 use Rattle.pay_words.proofs.Pasts.{start_over}
 use Rattle.pay_words.proofs.board.Board.found.Goals as goal
 
@@ -19,6 +19,9 @@ opening_words-requires-clause-fit g c = start_fits (record { net = c.args.net.no
 
 pub of_each-requires : goal.of_each-requires
 of_each-requires g c = start_values_fit (record { net = c.args.net.now; past = c.args.past.now }) _ c.debts-debts.ensures.network c.requires.belongs
+
+pub opening_clock-requires : goal.opening_clock-requires
+opening_clock-requires g c = clock_of_none c.args.net.now c.args.start.now c.args.past.now c.requires.belongs
 
 pub of_words-requires : goal.of_words-requires
 of_words-requires g c =
@@ -52,8 +55,8 @@ invariant_of-master g c =
     let origin : Origin = record { net = c.args.net.now; past = c.args.past.now } in
     let is : c.in_ok-origin.origin.me.0 ≡ origin = c.in_ok-origin.ensures ∙ c.requires.origin in
     let me : c.in_ok-table.seat.me ≡ (opening_view origin, []) = made.4 ∙ ap (λ (d : Origin). (opening_view d, [])) is in
-    let kept = kept_opening origin _ c.debts-debts.ensures.network c.requires.belongs c.greatest_stamp.result c.args.workers _ c.in_ok-debtors.ensures c.greatest_stamp.ensures (omega (arith, c.requires.workers)) in (
+    let kept = kept_opening origin _ c.debts-debts.ensures.network c.requires.belongs c.opening_clock.result c.args.workers _ c.in_ok-debtors.ensures c.opening_clock.ensures (omega (arith, c.requires.workers)) in (
       ap (λ (m : Me (Unit {0}) View). m.1) me,
-      subst (λ (y : Me (Unit {0}) View × List ℕ × List (List ℕ)). IsInMemory y.0.0 (seat_memory y.1 y.2 c.in_ok-debtors.debtors.items c.args.workers 0) c.greatest_stamp.result 0)
+      subst (λ (y : Me (Unit {0}) View × List ℕ × List (List ℕ)). IsInMemory y.0.0 (seat_memory y.1 y.2 c.in_ok-debtors.debtors.items c.args.workers 0) c.opening_clock.result 0)
           (λ i. (sym me i, sym c.none.ensures i, sym c.in_ok-lists.ensures i)) kept,
     )

@@ -1,5 +1,5 @@
 use Rattle.std.proofs.Common.{◌≡◌, vec_len, vec_capacity}
-use Rattle.clear_core.proofs.row_buffer.blank.Given as goal
+use Rattle.clear_core.proofs.row_buffer.set_places.Given as goal
 
 abbrev pub invariant-loop : goal.invariant-loop
 invariant-loop l = record {
