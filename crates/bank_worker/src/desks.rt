@@ -20,7 +20,8 @@ use std::marker::Model;
 pub struct Desks {
     desks: Vec<Desk>,
     banks: Vec<u32>,
-    set: BankSet,
+    // It stays in its place in memory, as an office's workspace does.
+    set: Box<BankSet>,
     // How many workers there are. The worker i among n has the banks i, i + n, i + 2 n and so on.
     workers: u32,
 }
@@ -36,7 +37,7 @@ impl Model for Desks {
     ghost view = { λ d. d.desks.items };
 
     ghost invariant = { λ d. (d.banks.items ≡ banks_of d.desks.items)
-        × AreInPlace d.banks.items d.set d.workers };
+        × AreInPlace d.banks.items d.set.value d.workers };
 }
 
 impl Desks {
@@ -55,6 +56,7 @@ impl Desks {
             }
         }
         let set = set_of(banks.as_slice());
+        let set = Box::new(alloc, set)?;
         Ok(Desks {
             desks,
             banks,

@@ -11,10 +11,11 @@ returns-in-Some c =
     let banks = c.as_slice-banks.result.now in
     let value = c.as_slice-banks.ensures.value in
     let here = value ∙ c.self.invariant.0 in
-    let h = subst (λ (bs : List ℕ). AreInPlace bs c.self.inside.set c.self.inside.workers) (sym value) c.self.invariant.1 in
+    let set = c.deref.result.now in
+    let h = subst (λ (y : List ℕ × List ℕ). AreInPlace y.0 y.1 c.self.inside.workers) (λ i. (sym value i, sym c.deref.ensures i)) c.self.invariant.1 in
     let lt : c.args.from < length banks = omega (arith, c.requires, length_banks desks banks here, ap length c.self.view_is, c.if-from-banks.false) in
     let f = c.in-Some.ensures.first in
-    let next = next_place banks c.self.inside.set c.args.called.now c.self.inside.workers c.args.from c.in-Some.bank.0 h lt f.0 f.1 c.in-Some.ensures.none_before in
+    let next = next_place banks set c.args.called.now c.self.inside.workers c.args.from c.in-Some.bank.0 h lt f.0 f.1 c.in-Some.ensures.none_before in
     rw (← c.self.view_is) (record {
       ahead = next.0;
       none_before = λ k ge less l. rw (← bank_at desks banks k here l) (next.1 k ge less);
@@ -26,7 +27,8 @@ returns-in-None-clause-none_before c =
     let banks = c.as_slice-banks.result.now in
     let value = c.as_slice-banks.ensures.value in
     let here = value ∙ c.self.invariant.0 in
-    let h = subst (λ (bs : List ℕ). AreInPlace bs c.self.inside.set c.self.inside.workers) (sym value) c.self.invariant.1 in
+    let set = c.deref.result.now in
+    let h = subst (λ (y : List ℕ × List ℕ). AreInPlace y.0 y.1 c.self.inside.workers) (λ i. (sym value i, sym c.deref.ensures i)) c.self.invariant.1 in
     rw (← c.self.view_is) (λ k ge less l.
     let in_list : k < length banks = omega (arith, l, length_banks desks banks here) in
     rw (← bank_at desks banks k here l)

@@ -53,7 +53,7 @@ invariant_of-result c =
       record {
         rise = rw are (filter_rises (is_of_worker w i) 0 (length net.banks));
         known = known_banks net c.loop-number.banks.items w i c.banks-number-end.ensures.network are;
-        out = rw are (set_out net c.set_of-set.result w i c.requires.workers
+        out = rw (are, c.in_ok-set.ensures.ok) (set_out net c.set_of-set.result w i c.requires.workers
             (λ b. c.set_of-set.ensures b ∙ ap (λ bs. is_among bs b) (c.as_slice.ensures.value ∙ are)));
       },
     )
