@@ -88,6 +88,7 @@ class Release(Case):
             f"{full}.tar.gz",
             "clearing_1.0.0.tar.gz",
             "clearing-7.8.9.RECORD",
+            "INSTALL",
             "SHA256SUMS",
         ]
         wanted = (0, "", [f"{folder}/{name}" for name in names])
