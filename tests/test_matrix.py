@@ -262,8 +262,8 @@ class Reading(ImportCase):
             ("column B: no row of this name\n", ",A,B,cash\nA,0,0,0\n"),
             (
                 "m.csv row 1 column Bank name, row 1 column Land: no row of this name; if it tells of the banks, say"
-                " --label-column, --short-column, --group-column or --country-column with its name, and if it is to be left"
-                " out, --drop with its name\n",
+                " --label-column, --short-column, --group-column or --country-column with its name, and if it is to"
+                " be left out, --drop with its name\n",
                 ",A,cash,Bank name,Land\nA,0,0,Alpha,DE\n",
             ),
             ("row 3: no column of the name B", ",A,cash\nA,0,0\nB,0,0\n"),

@@ -536,8 +536,8 @@ class Costs(InTheBrowser):
             [
                 "Where a bank in default keeps 90% of its estate, three banks default at the least payments that clear,"
                 " and none at the greatest. At the least nothing is lost of estates, and as much stays unpaid as"
-                " without costs; at the greatest nothing is lost of estates, and 300 units less stay unpaid than without"
-                " costs."
+                " without costs; at the greatest nothing is lost of estates, and 300 units less stay unpaid than"
+                " without costs."
             ],
         )
         self.assertEqual(last(core), [])

@@ -87,7 +87,7 @@ test("amounts are exact in the currency of a case", () => {
   ]);
   // Of two whole numbers that are as near it is the even one, as in the report.
   const halves = new Money("500", "EUR", true);
-  const { number: inThousands } = halves.scale(2_000_000);
+  const { number: inThousands } = halves.scale(1_900_000);
   assert.deepEqual([14_881, 14_883, -14_881, -14_883].map(inThousands), ["7,440", "7,442", "−7,440", "−7,442"]);
   assert.deepEqual([45_000, 35_000].map((amount) => plain(halves.say(amount))), ["EUR 22 million", "EUR 18 million"]);
   assert.deepEqual(

@@ -50,7 +50,8 @@ SHA256SUMS     checksums of all files: `sha256sum --check SHA256SUMS`
 README = README_BEGIN + """\
 `clearing-evidence check FOLDER` checks all this with Python alone. The command comes with each file of a release: with
 the wheel (pip install FILE.whl), the Debian package and the archive. From the repository it takes bin/clearing-evidence
-and python/src in one folder. FORMATS, among the documents of both, has the files; clearing-audit --help says more.
+and python/src in one folder. The document FORMATS of the package and the archive has the files, and clearing-audit
+--help tells what a journal is checked for.
 """
 REPOSITORY_README = README_BEGIN + """\
 `clearing-evidence check FOLDER` of the repository checks all this with Python alone; on another machine it needs

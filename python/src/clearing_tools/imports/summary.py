@@ -129,5 +129,5 @@ def tell_scale(summary: Summary, case: CaseOptions) -> None:
 def scale_told(summary: Optional[ImportSummary]) -> str:
     """What the amounts of the sheets of a case are in, such as `1,000 EUR`; nothing where the import was told none, or
     1."""
-    told = [line.where for line in summary.read if line.what == SCALE] if summary else []
-    return next((scale for scale in told if scale.split()[0] != "1"), "")
+    scales = [line.where for line in summary.read if line.what == SCALE] if summary else []
+    return next((scale for scale in scales if scale.split()[0] != "1"), "")
