@@ -225,7 +225,7 @@ class Planted(Case):
         for _ in range(2):
             done = self.run_in(self.folder, [*run, "check", folder], PYTHONPATH=str(place))
             self.assertEqual((done.returncode, self.mark.exists()), (0, False), (done.stdout, done.stderr))
-            self.assertIn("not checked: the same by the program: none is built here\n", done.stdout)
+            self.assertIn("not checked: the same by the program: none is here, and CLEARING names none\n", done.stdout)
             shutil.rmtree(self.work / "crates", ignore_errors=True)
 
     def test_there_is_one_way_to_find_a_program(self):

@@ -125,6 +125,50 @@ class Imported(Case):
             "clearing-from-matrix", 1, "which is no part of a case", sheet, *PLAIN, "--case", self.place, "--replace"
         )
 
+    def test_losses_in_units_do_not_stay_where_a_unit_is_worth_something_else(self):
+        self.make()
+        scenarios = self.place / "scenarios.toml"
+        scenarios.write_text('[[scenario]]\nname = "x"\n[[scenario.loss]]\nbank = "A"\namount = 4\n')
+        sheet = [self.folder / "m.csv", "--case", self.place, "--replace"]
+        other = [word.replace("--unit=0.5", "--unit=0.25") for word in PLAIN]
+        self.assertNotEqual(other, list(PLAIN))
+        self.refused(
+            "clearing-from-matrix",
+            1,
+            "scenarios.toml has losses in units of 0.5, and a unit is 0.25 now; remove it, and make it anew by"
+            " clearing-case scenarios",
+            *sheet,
+            *other,
+        )
+        self.assertEqual(str(cc.Case.read(self.place).unit), "0.5")
+        self.told("clearing-from-matrix", *sheet, *PLAIN)
+        self.assertIn(b"amount = 4", cc.Case.read(self.place).scenarios)
+        # A cut is of cash, whatever a unit is; and without the file nothing is in the way.
+        scenarios.write_text('[[scenario]]\nname = "the amount of half"\ncut = 500\n')
+        self.told("clearing-from-matrix", *sheet, *other)
+        scenarios.unlink()
+        self.told("clearing-from-matrix", *sheet, *PLAIN)
+        self.assertEqual(str(cc.Case.read(self.place).unit), "0.5")
+
+    def test_losses_say_what_they_are_in_where_the_sheets_of_the_case_were_not_in_single_amounts(self):
+        self.make("--amounts-in=1000")
+        sheet = self.file("s.csv", "bank,x\nA,2\n")
+        self.refused(
+            "clearing-case",
+            1,
+            f"the sheets of {self.place} are in 1,000 EUR: say --amounts-in 1000 if this one is too, else --amounts-in"
+            " 1\n",
+            "scenarios",
+            self.place,
+            sheet,
+        )
+        self.assertFalse((self.place / "scenarios.toml").exists())
+        for word, units in ("1000", 4), ("500", 2):
+            self.made("clearing-case", "scenarios", self.place, sheet, "--replace", "--amounts-in", word)
+            self.assertIn(f"amount = {units}\n".encode(), cc.Case.read(self.place).scenarios)
+        shares = self.file("shares.csv", "bank,x\nA,100%\n")
+        self.made("clearing-case", "scenarios", self.place, shares, "--replace", "--share")
+
     def test_what_belongs_to_a_case_that_is_written_over_stays_or_is_told(self):
         """What the sheets say alone goes with them: the date, and labels of banks that get none."""
         self.make()

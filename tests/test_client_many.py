@@ -141,6 +141,16 @@ class Sums(Case):
             self.assertIs(left.network, net)
             self.assertTrue(all(one.cash == one.outside_paid + one.equity for one in left.scenarios))
 
+    def test_what_a_case_has_of_scenarios_is_taken_as_it_is(self):
+        case = cc.Case.read(TWELVE)
+        self.assertIsInstance(case.scenarios, bytes)
+        path = TWELVE / "scenarios.toml"
+        for task in (case.network.stress, case.network.outcomes):
+            self.assertEqual(task(case.scenarios).text, task(path).text)
+        for map_task in (cc.map_stress, cc.map_outcomes):
+            told = [list(map(repr, map_task([case.network], what))) for what in (case.scenarios, path)]
+            self.assertEqual(told[0], told[1])
+
     def test_counts_are_those_of_all_runs_of_a_hundred(self):
         net, scenarios = network_of(TWELVE), Scenarios.cuts(range(100, 1001, 3))
         (left,), outcomes = cc.map_outcomes([net], scenarios), list(cc.map_stress([net], scenarios))

@@ -5,7 +5,7 @@ from typing import List
 
 from common import ROOT, TWELVE, files_of
 from desk import SCENARIOS, standings
-from desk_page import DeskPage
+from desk_page import DeskPage, strip
 
 # The account of Fjord in the tour: what each line is called, and its units.
 FJORD = [
@@ -155,6 +155,11 @@ class Scenarios(DeskPage):
         self.build([("Birk", "1,500,000"), ("Isar", "1,000,000"), ("Fjord", "1,000,000")], "Three banks", "0")
         self.until_state(1)
         self.told_as_in_the_guide("Fjord joins those in default; EUR 3.00 billion more stays unpaid")
+        # What was typed in units is told as what it is worth.
+        lost = "Birk EUR 1,500,000,000", "Fjord EUR 1,000,000,000", "Isar EUR 1,000,000,000"
+        for key, last in ("losses", ", "), ("changes", " and "):
+            said = strip(self.text(key))
+            self.assertIn(f"Beside the cut is lost: {lost[0]}, {lost[1]}{last}{lost[2]}.", said)
 
     def who_falls_and_why_to_the_last_unit(self) -> None:
         """The account of this bank, and what would save it."""

@@ -12,7 +12,7 @@ import time
 from common import HUB, PROGRAM, ROOT, files_of, needs
 from evidences import SCENARIOS, SCRIPT, EvidenceCase, evidence
 
-from clearing_tools.evidence.layout import OLDER_README
+from clearing_tools.evidence.layout import OLDER_README, REPOSITORY_README
 
 # The first of the three scenarios, half of all cash.
 ONE_SCENARIO = SCENARIOS.split('[[scenario]]\nname = " South')[0]
@@ -97,7 +97,7 @@ class Made(EvidenceCase):
         self.assertEqual((done.returncode, done.stderr), (0, b""))
         told = done.stdout.decode()
         self.assertRegex(told, "(?m)^rescue of total with [0-9]+: sound with it, and not with a unit less$")
-        self.assertIn("not checked: the same by the program: none is built here\n", told)
+        self.assertIn("not checked: the same by the program: none is here, and CLEARING names none\n", told)
         self.assertNotIn("replayed", told)
 
     def test_a_generated_network_of_200_is_checked(self):
@@ -181,7 +181,8 @@ class Made(EvidenceCase):
         self.assertEqual(
             evidence("make", folder, "--banks", HUB / "banks.csv", "--debts", HUB / "debts.csv").returncode, 0
         )
-        for text, status in ((OLDER_README, 0), (OLDER_README.replace("audit.py", "other.py"), 3)):
+        other = OLDER_README.replace("audit.py", "other.py")
+        for text, status in ((OLDER_README, 0), (REPOSITORY_README, 0), (other, 3)):
             (folder / "README.txt").write_text(text)
             self.sums_anew(folder)
             self.assertEqual(evidence("check", folder).returncode, status)

@@ -259,7 +259,13 @@ class Reading(ImportCase):
     def test_tables_out_of_shape_are_refused(self):
         for told, text in [
             ("no column cash", ",A\nA,0\n"),
-            ("column B: no row of this name", ",A,B,cash\nA,0,0,0\n"),
+            ("column B: no row of this name\n", ",A,B,cash\nA,0,0,0\n"),
+            (
+                "m.csv row 1 column Bank name, row 1 column Land: no row of this name; if it tells of the banks, say"
+                " --label-column, --short-column, --group-column or --country-column with its name, and if it is to"
+                " be left out, --drop with its name\n",
+                ",A,cash,Bank name,Land\nA,0,0,Alpha,DE\n",
+            ),
             ("row 3: no column of the name B", ",A,cash\nA,0,0\nB,0,0\n"),
             ("row 3: 2 fields, and the header has 3", ",A,cash\nA,0,0\nB,0\n"),
             ("row 3: a second row of the name A", ",A,cash\nA,0,0\nA,0,0\n"),

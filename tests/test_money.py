@@ -70,6 +70,15 @@ class Digits(unittest.TestCase):
         self.assertEqual(money.Money(Decimal("1E+3"), "EUR").about(), "Amounts in EUR; a unit of account is EUR 1,000.")
         self.assertEqual(money.Money(Decimal("0.10"), "EUR")(10**12 + 1), "EUR 100,000,000,000.1")
         self.assertEqual(money.Money(Decimal("1000")).in_short(-12_345_678), "-12.35\u00a0billion")
+        euros = money.Money(Decimal("1000"), "EUR")
+        amounts = (999, 1_000, 7_440, -9_949, 9_951, 999_499, 999_600)
+        self.assertEqual(
+            [euros.in_short(units).replace("\u00a0", " ") for units in amounts],
+            [
+                "EUR 999,000", "EUR 1 million", "EUR 7.4 million", "EUR -9.9 million", "EUR 10 million",
+                "EUR 999 million", "EUR 1.00 billion",
+            ],
+        )
         self.assertEqual(
             [money.Money(None, "EUR").scale_of([10**9]).number(units) for units in (-(10**6), 1, 0)],
             ["\u22121", "<1", "0"],

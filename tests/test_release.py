@@ -88,6 +88,7 @@ class Release(Case):
             f"{full}.tar.gz",
             "clearing_1.0.0.tar.gz",
             "clearing-7.8.9.RECORD",
+            "INSTALL",
             "SHA256SUMS",
         ]
         wanted = (0, "", [f"{folder}/{name}" for name in names])
@@ -117,7 +118,11 @@ class Release(Case):
         ):
             self.assertTrue((prefix / "share" / name).is_file(), name)
         record = (prefix / "share/doc/clearing/RECORD").read_text()
-        self.assertEqual(self.one[-2].read_text(), record)
+        self.assertEqual(self.one[-3].read_text(), record)
+        install = (prefix / "share/doc/clearing/INSTALL").read_text()
+        self.assertEqual(self.one[-2].read_text(), install)
+        for words in ("pip install FILE", "apt install ./clearing_7.8.9_amd64.deb", "R CMD INSTALL FILE"):
+            self.assertIn(words, install)
         head = ran("git", "-C", self.checkout, "rev-parse", "HEAD").stdout.strip()
         for line in (
             "clearing 7.8.9",
@@ -137,11 +142,11 @@ class Release(Case):
         """By a toolchain that says which it is: what is the same, and what differs."""
         (self.folder / "rt").write_text("#!/bin/sh\necho other logic 7\n")
         (self.folder / "rt").chmod(0o755)
-        record = self.one[-2].read_text()
+        record = self.one[-3].read_text()
         told = re.search("(?m)^toolchain (.*)$", record)[1]
         done = ran(
             self.checkout / "tools/dev/check_record.sh",
-            self.one[-2],
+            self.one[-3],
             env={**os.environ, "PATH": f"{self.folder}:/usr/bin:/bin"},
         )
         self.assertEqual((done.returncode, done.stdout.count("same: ")), (1, 2), (done.stdout, done.stderr))
@@ -149,7 +154,7 @@ class Release(Case):
         (self.folder / "rt").write_text(f"#!/bin/sh\necho '{told}'\n")
         done = ran(
             self.checkout / "tools/dev/check_record.sh",
-            self.one[-2],
+            self.one[-3],
             env={**os.environ, "PATH": f"{self.folder}:/usr/bin:/bin"},
         )
         self.assertEqual((done.returncode, done.stdout.count("same: ")), (0, 3), (done.stdout, done.stderr))

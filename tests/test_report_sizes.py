@@ -20,6 +20,7 @@ class Sizes(InTheBrowser):
         scenarios = self.file("s.toml", f'[[scenario]]\nname = "{"e" * 64}"\ncut = 1000\n')
         self.widths_of(files_of(TWELVE), "--scenarios", TWELVE / "scenarios.toml", "--title", "A" * 90)
         self.widths_of(files_of(self.folder), "--scenarios", scenarios, "--default-keeps", "700")
+        self.widths_of(files_of(TWELVE), "--default-keeps", "700", "--unit", "90", "--currency", "EUR")
 
     def widths_of(self, *words: Any) -> None:
         self.open(*words)

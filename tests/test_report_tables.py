@@ -211,6 +211,28 @@ class Tables(InTheBrowser):
         unpaid = unit * sum(int(row[3]) - int(row[2]) for row in found)
         return [str(sum(row[-1] != "sound" for row in found)), f"{round(unpaid / 1000):,}"]
 
+    def test_full_names_stand_wherever_a_bank_is_named_and_what_is_owed_outside_beside_what_banks_owe(self):
+        """By `order` the bank A, which has a full name, gets nothing, and cannot pay."""
+        (self.folder / "banks.csv").write_text(
+            "name,cash,rule,outside\nA,0,webster,0\nC,0,webster,0\nD,15,webster,5\nE,0,webster,0\n"
+        )
+        (self.folder / "debts.csv").write_text("debtor,creditor,class,claim\nD,C,1,10\nD,A,1,10\nA,E,1,5\n")
+        some, whole = "code,name\nA,Alpha Bank S.A.\n", "C,Beta\nD,Delta\nE,Epsilon\n"
+        labels = self.file("labels.csv", some)
+        words = ["--labels", labels, "--default-keeps", "900", "--unit", "1000000", "--currency", "EUR"]
+        self.open(files_of(self.folder), *words)
+        text = "return document.querySelector(arguments[0]).textContent"
+        told = lambda key: self.js(text, key).replace("\u00a0", " ")
+        self.assertIn("Alpha Bank S.A. in default", told("#stands tbody"))
+        page = told("body")
+        self.assertIn("EUR 25 million by 3 debts between four banks, EUR 5 million outside; with EUR 15 million", page)
+        self.assertIn("it is no loss: banks and those outside together have what cash there was", page)
+        self.assertIn("all others are called as in the files.", told("#evidence"))
+        self.assertIn("it is divided by the rule webster, in proportion (Webster), where it is not enough", page)
+        labels.write_text(some + whole)
+        self.open(files_of(self.folder), *words)
+        self.assertIn("no other is there.", told("#evidence"))
+
     def test_banks_whose_label_one_unit_decides_are_marked_in_tables_pictures_and_sentences(self):
         banks = self.file("b.csv", "name,cash,rule\nA,3,webster\nB,0,order\nC,0,order\nD,0,order\n")
         debts = self.file("d.csv", "debtor,creditor,class,claim\nA,B,1,2\nA,C,1,2\nB,D,1,2\nC,D,1,2\n")
@@ -495,8 +517,8 @@ class Costs(InTheBrowser):
         self.assertEqual(
             last(core, "--default-keeps", "800"),
             [
-                "Where a bank in default keeps 80% of its estate, 42 banks fall at the least payments that clear, and"
-                " 41 at the greatest. At the least 102,005 units are lost of estates, and 341,769 units more stay"
+                "Where a bank in default keeps 80% of its estate, 42 banks default at the least payments that clear,"
+                " and 41 at the greatest. At the least 102,005 units are lost of estates, and 341,769 units more stay"
                 " unpaid than without costs; at the greatest 101,718 units are lost of estates, and 340,505 units more"
                 " stay unpaid than without costs."
             ],
@@ -504,17 +526,18 @@ class Costs(InTheBrowser):
         self.assertEqual(
             last(files_of(ROOT / "examples/chain"), "--default-keeps", "500", "--unit", "1000", "--currency", "EUR"),
             [
-                "Where a bank in default keeps 50% of its estate, 2 banks fall at the least as at the greatest payments"
-                " that clear; EUR\u00a06,000 is lost of estates, and EUR\u00a010,000 more stays unpaid than without"
-                " costs."
+                "Where a bank in default keeps 50% of its estate, two banks default, at the least payments that clear"
+                " and at the greatest; EUR\u00a06,000 is lost of estates, and EUR\u00a010,000 more stays unpaid than"
+                " without costs."
             ],
         )
         self.assertEqual(
             last(ring, "--default-keeps", "900"),
             [
-                "Where a bank in default keeps 90% of its estate, 3 banks fall at the least payments that clear, and"
-                " none at the greatest. At the least nothing is lost of estates, and as much stays unpaid as without"
-                " costs; at the greatest nothing is lost of estates, and 300 units less stay unpaid than without costs."
+                "Where a bank in default keeps 90% of its estate, three banks default at the least payments that clear,"
+                " and none at the greatest. At the least nothing is lost of estates, and as much stays unpaid as"
+                " without costs; at the greatest nothing is lost of estates, and 300 units less stay unpaid than"
+                " without costs."
             ],
         )
         self.assertEqual(last(core), [])

@@ -38,6 +38,9 @@ print.bank_case <- function(x, ...) {
   invisible(x)
 }
 
+# The sums of its network.
+summary.bank_case <- function(object, ...) summary(object$network)
+
 # Units of a case as exact amounts of its currency, as text.
 amount <- function(case, units) {
   parts <- strsplit(case$unit, ".", fixed = TRUE)[[1]]

@@ -4,6 +4,7 @@
 \alias{bank_case}
 \alias{amount}
 \alias{print.bank_case}
+\alias{summary.bank_case}
 \title{Cases: a network with its unit, date and names}
 \description{A case is a folder with the two files, perhaps \code{scenarios.toml} and \code{labels.csv}, and
 \code{datapackage.json}, a description by the Data Package standard. \code{read_case} reads one, \code{write_case}
@@ -16,6 +17,7 @@ read_case(folder)
 write_case(case, folder, replace = FALSE)
 amount(case, units)
 \method{print}{bank_case}(x, ...)
+\method{summary}{bank_case}(object, ...)
 }
 \arguments{
   \item{network}{a network}
@@ -27,7 +29,7 @@ amount(case, units)
   \item{labels}{a data frame with the columns bank, short, full, group and country}
   \item{keep}{what default keeps, per mille, where the case is about it}
   \item{folder}{the name of a folder}
-  \item{case, x}{a case}
+  \item{case, x, object}{a case}
   \item{replace}{whether a case that is there is written over}
   \item{units}{whole units of account}
   \item{...}{not used}
@@ -35,7 +37,7 @@ amount(case, units)
 \value{A case: a list with \code{network}, \code{labels}, \code{title}, \code{description}, \code{as_of},
 \code{test}, \code{currency}, \code{unit}, \code{limits}, \code{keep} and \code{notes}, lines on what in the folder
 is not as it was described, and on keys under \code{clearing} that are unknown. All tasks take a case in the place
-of a network. \code{amount} gives texts, exact decimals in the currency; \code{as.numeric} makes numbers of them.}
+of a network, and so does \code{summary}. \code{amount} gives texts, exact decimals in the currency; \code{as.numeric} makes numbers of them.}
 \examples{
 banks <- data.frame(name = c("A", "B", "C"), cash = c(7, 1, 0))
 debts <- data.frame(debtor = c("A", "B"), creditor = c("B", "C"), claim = c(10, 9))

@@ -11,6 +11,11 @@ test("a case is read as it was written", {
   expect_same(read$notes, character(0))
 })
 
+test("the summary of a case is that of its network", {
+  case <- labelled_case()
+  expect_same(summary(case), summary(case$network))
+})
+
 test("amounts of a case are exact texts", {
   case <- labelled_case()
   expect_same(amount(case, c(0, 1, 10, 123456, -5)), c("0.00", "0.01", "0.10", "1234.56", "-0.05"))

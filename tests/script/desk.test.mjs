@@ -16,7 +16,7 @@ for (const part of ["drawing/web/script", "desk/script"]) {
 process.on("exit", () => fs.rmSync(folder, { recursive: true }));
 const load = (name) => import(pathToFileURL(path.join(folder, `${name}.mjs`)).href);
 const { apart, many, minus, number, signed } = await load("texts");
-const { cut, listed, word } = await load("sentences");
+const { cut, ended, listed, word } = await load("sentences");
 const { Money } = await load("money");
 const { accountAgainst, linesOf } = await load("account");
 const compare = await load("compare");
@@ -85,6 +85,11 @@ test("amounts are exact in the currency of a case", () => {
   assert.deepEqual([6_078_334, 10_000, 1, 0, -150_000].map((amount) => plain(thousand.say(amount))), [
     "EUR 6.08 billion", "EUR 10 million", "EUR 1,000", "EUR 0", "EUR −150 million",
   ]);
+  // Of two whole numbers that are as near it is the even one, as in the report.
+  const halves = new Money("500", "EUR", true);
+  const { number: inThousands } = halves.scale(1_900_000);
+  assert.deepEqual([14_881, 14_883, -14_881, -14_883].map(inThousands), ["7,440", "7,442", "−7,440", "−7,442"]);
+  assert.deepEqual([45_000, 35_000].map((amount) => plain(halves.say(amount))), ["EUR 22 million", "EUR 18 million"]);
   assert.deepEqual(
     [thousand.whole.words, thousand.whole.number(1_831_667), thousand.whole.number(-10_000)],
     ["EUR thousand", "1,831,667", "−10,000"],
@@ -155,6 +160,7 @@ test("names stand in a sentence", () => {
   assert.equal(listed(["A"]), "A");
   assert.equal(listed(["A", "B", "C"]), "A, B and C");
   assert.equal(listed(["A", "B", "C", "D"], 2), "A, B and 2 more");
+  assert.deepEqual(["It is A", "It is B S.A."].map(ended), ["It is A.", "It is B S.A."]);
   assert.equal(apart("x"), "\u2068x\u2069");
 });
 

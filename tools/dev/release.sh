@@ -10,7 +10,8 @@
 # Out:  FOLDER/clearing-VERSION-x86_64.tar.gz and FOLDER/clearing_VERSION_amd64.deb, which have the program, the tools, manual pages,
 #       completions for bash, zsh and fish, the documents as HTML, examples, and the record of the gate; the wheel of the package for
 #       Python with the program, the one without it, and its sources; the package for R; FOLDER/clearing-VERSION.RECORD, the same
-#       record; and FOLDER/SHA256SUMS. Their names on standard output. The same checkout and program make the same bytes.
+#       record; FOLDER/INSTALL, which tells what each file is for; and FOLDER/SHA256SUMS. Their names on standard output. The same
+#       checkout and program make the same bytes.
 #
 # Wants pandoc and dpkg-deb (Debian's packages pandoc and dpkg), and R with its package knitr (r-base-core and r-cran-knitr).
 # Ends with 0, with 1 and a message where something is not as it must be, and with 2 where the words are not understood.
@@ -21,7 +22,7 @@ PATH=${path#:} && export PATH; unset IFS; set +f
 
 case "${1:-}" in
 --help | -h)
-    sed -n '2,16s/^# \{0,1\}//p' "$0" || exit 1
+    sed -n '2,17s/^# \{0,1\}//p' "$0" || exit 1
     exit 0
     ;;
 esac
@@ -215,10 +216,10 @@ sed -i "s/^Packaged: .*/Packaged: $packaged; clearing/" "$work/r/clearing/DESCRI
 tar -C "$work/r" --sort=name --mtime="@$SOURCE_DATE_EPOCH" --owner=0 --group=0 --numeric-owner --mode=u=rwX,go=rX --format=gnu -cf - clearing |
     gzip -9n >"$work/$of_r" || fail "the package for R cannot be written"
 # What was built and proved, beside the files; tools/dev/check_record.sh compares it with a build of one'"'"'s own.
-cp "$docs/RECORD" "$work/clearing-$version.RECORD" || exit 1
+cp "$docs/RECORD" "$work/clearing-$version.RECORD" && cp "$docs/INSTALL" "$work/INSTALL" || exit 1
 # shellcheck disable=SC2086
-(cd "$work" && sha256sum "$archive" "$package" "$wheel" $others "$of_r" "clearing-$version.RECORD" >SHA256SUMS) || exit 1
-for name in "$archive" "$package" "$wheel" $others "$of_r" "clearing-$version.RECORD" SHA256SUMS; do
+(cd "$work" && sha256sum "$archive" "$package" "$wheel" $others "$of_r" "clearing-$version.RECORD" INSTALL >SHA256SUMS) || exit 1
+for name in "$archive" "$package" "$wheel" $others "$of_r" "clearing-$version.RECORD" INSTALL SHA256SUMS; do
     mv -fT -- "$work/$name" "$folder/$name" 2>/dev/null || fail "$folder cannot be written"
     echo "$folder/$name"
 done

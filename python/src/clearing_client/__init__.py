@@ -68,7 +68,7 @@ Decimal('45000')
 `.labels` and `.notes` are what it has. Importers write cases too, by `--case FOLDER`.
 
 `compare(before, after)` puts two cases side by side, `ensemble(cases, tasks)` says what tasks say over many
-networks, and `stands(case)` which banks are elsewhere where unit, order, rule, classes or costs are varied.
+networks, and `stands(case)` which banks change when the unit, order, rule, classes or costs are changed.
 `unsteady(case)` has the banks that one unit decides.
 
 The tables and their columns; amounts are units, and a table has a place for each debt or each

@@ -93,7 +93,7 @@ class Case:
         limits: Optional[str] = None,
         keep: Optional[int] = None,
         labels: Union[Mapping[str, Label], Iterable[Label]] = (),
-        scenarios: Union[ScenariosLike, bytes, None] = None,
+        scenarios: Optional[ScenariosLike] = None,
         contributors: Iterable[Mapping[str, object]] = (),
         sources: Iterable[Source] = (),
         summary: Optional[ImportSummary] = None,
@@ -503,11 +503,9 @@ def exact_unit(unit: Union[Decimal, int, str]) -> Decimal:
     return value
 
 
-def scenarios_bytes(scenarios: Union[ScenariosLike, bytes, None]) -> Optional[bytes]:
+def scenarios_bytes(scenarios: Optional[ScenariosLike]) -> Optional[bytes]:
     """The scenarios file of some scenarios."""
-    if scenarios is None or isinstance(scenarios, bytes):
-        return scenarios
-    return third_of(scenarios)[0][-1]
+    return None if scenarios is None else third_of(scenarios)[0][-1]
 
 
 def without_none(values: Mapping[str, object]) -> Document:

@@ -17,7 +17,7 @@ from .table import Table, words_of
 File = Union[str, "os.PathLike[str]"]
 FILE = (str, os.PathLike)
 """What names a file."""
-ScenariosLike = Union[Scenarios, Iterable[Union[Scenario, Mapping[str, object]]], File]
+ScenariosLike = Union[Scenarios, Iterable[Union[Scenario, Mapping[str, object]]], File, bytes]
 Third = Tuple[str, bytes]  # a file's option, and its bytes
 JournalLike = Union[Journal, Table[Raise], Iterable[Raise], File]
 
@@ -42,10 +42,15 @@ def as_scenarios(scenarios: Union[Scenarios, Iterable[Union[Scenario, Mapping[st
 
 def third_of(scenarios: ScenariosLike) -> Tuple[Third, Optional[Scenarios]]:
     """The file of some scenarios, and these where they are not given as a file."""
-    if isinstance(scenarios, FILE):
-        return as_third(read_file(scenarios, LARGEST_SCENARIOS)), None
-    chosen = as_scenarios(scenarios)
-    return as_third(chosen), chosen
+    chosen = chosen_of(scenarios)
+    return as_third(chosen), None if isinstance(chosen, bytes) else chosen
+
+
+def chosen_of(scenarios: ScenariosLike) -> Union[Scenarios, bytes]:
+    """Scenarios, or a file of them as it is: one that is named, or what a case has."""
+    if isinstance(scenarios, bytes):
+        return scenarios
+    return read_file(scenarios, LARGEST_SCENARIOS) if isinstance(scenarios, FILE) else as_scenarios(scenarios)
 
 
 def as_third(scenarios: Union[Scenarios, bytes]) -> Third:

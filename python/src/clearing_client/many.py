@@ -17,7 +17,7 @@ from typing import Callable, Deque, Iterable, Iterator, List, NamedTuple, Option
 from . import tabular
 from .errors import RefusedError, TextError
 from .format import MAX_SCENARIOS
-from .inputs import FILE, LARGEST_SCENARIOS, ScenariosLike, as_scenarios, as_third, effort, read_file
+from .inputs import ScenariosLike, as_third, chosen_of, effort
 from .network import Limits, Network
 from .program import processors
 from .records import BankCounts, ScenarioSums
@@ -114,11 +114,7 @@ def runs_of(
 ) -> Iterator[Tuple[Network, Part]]:
     """The runs, each a network and so many of the scenarios at most, or a file of them as it is. The scenarios are
     read at once."""
-    known: Union[Scenarios, bytes]
-    if isinstance(scenarios, FILE):
-        known = read_file(scenarios, LARGEST_SCENARIOS)
-    else:
-        known = as_scenarios(scenarios)
+    known = chosen_of(scenarios)
     return ((net, part) for net in networks for part in parts_of(known, most(net)))
 
 

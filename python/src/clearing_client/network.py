@@ -295,8 +295,8 @@ class Network:
         timeout: Optional[float] = None,
         limits: Limits = None,
     ) -> Stress:
-        """What each scenario leaves: `Scenarios`, `Scenario`s, dicts of the shape of the TOML document, or the name of
-        a TOML file. At most 100; `map_stress` takes more.
+        """What each scenario leaves: `Scenarios`, `Scenario`s, dicts of the shape of the TOML document, the name of
+        a TOML file, or the `scenarios` of a case. At most 100; `map_stress` takes more.
 
         >>> from clearing_client import Scenario
         >>> net = Network({"A": 7, "B": 1, "C": 0}, {("A", "B"): 7, ("B", "C"): 8})

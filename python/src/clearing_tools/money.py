@@ -98,11 +98,12 @@ class Money:
 
     def in_short(self, units: int) -> str:
         """An amount with its currency in a sentence: billions with two decimals, whole millions below one billion,
-        whole below one million. A number and its unit do not part."""
+        millions with one below ten, whole below one million. A number and its unit do not part."""
         value = self.worth(units).copy_abs()
         for size, word, places in SHORT:
-            if value >= size:
-                number = f"{self.worth(units, size):,.{places}f}\u00a0{word}"
+            if value >= (FROM_BILLIONS if places else size):
+                text = f"{self.worth(units, size):,.{places or int(value < TEN_MILLIONS)}f}"
+                number = f"{text if places else text.removesuffix('.0')}\u00a0{word}"
                 return (
                     f"{self.currency}\u00a0{number}"
                     if self.currency
@@ -133,6 +134,10 @@ class Money:
 
 
 SHORT = ((10**9, "billion", 2), (10**6, "million", 0))
+FROM_BILLIONS = 999_500_000
+"""What is said in billions: it would be 1,000 whole millions."""
+TEN_MILLIONS = 9_950_000
+"""From here on millions are whole."""
 SIZES = ((10**12, 10**9, "billion"), (10**9, 10**6, "million"), (10**6, 10**3, "thousand"))
 
 

@@ -2,23 +2,24 @@
 
 In:  TASK, and the folder of a case, with banks.csv and debts.csv, and, where they are there, scenarios.toml,
      labels.csv, sources/ and datapackage.json, the description by the Data Package standard of Frictionless Data,
-     version 2. A folder with the two files alone is a case too. Importers write one by --case FOLDER. Tools that take
-     --banks and --debts take one in their place, and others take it by --case.
+     version 2. A folder with the two files alone is a case too. Importers write one by --case FOLDER. Most tools that
+     take --banks and --debts take one in their place, and others take it by --case; clearing-audit and clearing-shock,
+     which stand alone, take the two files in it.
 Out: on standard output, or in --output FILE, what the task says; TASK --help has the words of each task.
 
 show       what the case is: title, date, currency, unit, sums, sources, what the import did, and its text
 check      the description by its schema, the files by their checksums, and all faults of the files, as lint names them
-refresh    describes the files anew, once they were changed by hand; what is said beside decides
+refresh    describes the files anew, after they were changed by hand; its options change what the description says
 scenarios  makes scenarios.toml of a sheet: a scenario a column (or a row, --rows), a bank a row, and what it loses, as
            an amount or as a share of its cash (--share); what was rounded is told
 compare    two cases side by side: who falls and who is saved, what each bank pays, keeps and owes more or less, who
            came and who went
 ensemble   what tasks say over many networks: least, quartiles and greatest, and in how many each bank defaults
-stands     which banks change their state, or begin or cease to keep anything, where a unit is worth twice or half as
-           much, the debts stand in reversed order, all banks have webster, all debts one class, default keeps 950, 900
-           or 800 per mille, or the greatest payments are made; `*` marks what is otherwise than as it is. A bank that
-           is otherwise at twice or half the unit is within the rounding of a unit: no figure of it that is of that
-           size is to be relied on
+stands     clears the case again with one choice changed at a time, and names the banks that are then in another state,
+           or have something left where they had nothing, or nothing where they had something. The choices: a unit worth
+           twice or half as much, the debts in reversed order, webster for all banks, one class for all debts, a default
+           that keeps 950, 900 or 800 per mille, and the greatest payments. `*` marks what is not as in the column `as
+           it is`. If twice or half the unit changes a bank, one unit decides it: rely on no figure of it
 
 Ends with 0; 1 where `check` finds something; 2 where the words are not understood; 3 where a file cannot be read; 4
 where the folder is no case; 5 where the output cannot be written.
@@ -207,7 +208,7 @@ TASKS = {
     "scenarios": Task("scenarios of a sheet", shocks.add_scenarios, shocks.take_scenarios),
     "compare": Task("two cases side by side", compare.add_compare, compare.compare_cases),
     "ensemble": Task("what tasks say over many networks", ensemble.add_ensemble, ensemble.ask_many),
-    "stands": Task("which banks are elsewhere where something is varied", stands.add_stands, stands.ask_stands),
+    "stands": Task("which banks change when one choice is changed", stands.add_stands, stands.ask_stands),
 }
 
 

@@ -18,7 +18,7 @@ from ..imports.amounts import Amounts, AmountError, shown
 from ..imports.faults import HEADER, Faults
 from ..imports.made_case import scale_in
 from ..imports.reading import Form
-from ..imports.summary import Summary
+from ..imports.summary import Summary, scale_told
 from ..imports.tables import Table
 from ..runner import ToolError
 from ..texts import read_accounts
@@ -44,7 +44,12 @@ def add_scenarios(parser: argparse.ArgumentParser) -> None:
     add("scenario_sheet", metavar="SHEET", help="the sheet: names of banks in its first column, a scenario a column")
     add("--rows", action="store_true", help="a scenario a row, and a bank a column")
     add("--share", action="store_true", help="losses are shares of cash, such as 0.25 or 25%%, and not amounts")
-    add("--amounts-in", metavar="N", type=scale_in, help="losses are in so many of the currency, such as 1000 (1)")
+    add(
+        "--amounts-in",
+        metavar="N",
+        type=scale_in,
+        help="losses are in so many of the currency, such as 1000 (1, or asked for by what the case was made of)",
+    )
     add("--replace", action="store_true", help="write over the scenarios that are there")
     add(
         "--ignore",
@@ -93,6 +98,7 @@ def take_scenarios(args: argparse.Namespace) -> int:
 
 def scenarios_of(table: Table, case: Case, args: argparse.Namespace, faults: Faults, summary: Summary) -> Scenarios:
     """The scenarios of a sheet, in its order."""
+    check_scale(table, case, args, faults)
     cash = {bank: account.cash for bank, account in read_accounts(case.paths["banks"])[1].items()}
     columns = columns_in(table, args, faults)
     losses = list(losses_of(table, columns, args, faults))
@@ -108,6 +114,15 @@ def scenarios_of(table: Table, case: Case, args: argparse.Namespace, faults: Fau
         whole.take(loss, exact, cash[loss.bank])
     whole.tell(summary, table)
     return Scenarios([Scenario(name, losses=whole.units[name]) for name in names])
+
+
+def check_scale(table: Table, case: Case, args: argparse.Namespace, faults: Faults) -> None:
+    """Refuses losses of which nobody said what they are in, where the sheets of the case are not in single amounts."""
+    scale = scale_told(case.summary)
+    if scale and args.amounts_in is None and not args.share:
+        number = scale.split()[0].replace(",", "")
+        say = f"say --amounts-in {number} if this one is too, else --amounts-in 1"
+        faults.add_general(table, f"the sheets of {case.folder} are in {scale}: {say}")
 
 
 def columns_in(table: Table, args: argparse.Namespace, faults: Faults) -> List[str]:

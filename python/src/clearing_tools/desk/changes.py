@@ -42,7 +42,7 @@ def of_all(base: Base, state: State) -> Iterator[str]:
     if state.cut != "0":
         yield f"All cash is cut by {number(state.cut)} per mille."
     for place, amount in state.losses:
-        yield f"{labels.apart(base.banks[place].name)} loses {amount:,} of its cash beside the cut."
+        yield f"{labels.apart(base.banks[place].name)} loses {amount:,} units of its cash beside the cut."
     if state.keep != states.AS_IT_IS.keep:
         yield f"A bank in default keeps {number(state.keep)} per mille of its estate."
 

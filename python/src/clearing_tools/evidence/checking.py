@@ -17,7 +17,7 @@ from .. import runner
 from ..runner import ToolError
 from . import audit, shock, source
 from .layout import (
-    BANKS, CHANGES, DESCRIPTION, FILE, JOURNAL, LABELS, OLDER_README, PROGRAM, README, SUMS, TABLES, TEXTS, UNREAD,
+    BANKS, CHANGES, DESCRIPTION, FILE, JOURNAL, LABELS, PROGRAM, READMES, SUMS, TABLES, TEXTS, UNREAD,
     VERSIONS, CommandOf, commands_text, limits_of, limits_words, most_of, most_of_journal, sums_listed, sums_text,
 )
 from .parts import Part, commands_of, is_stress, names_of, parts_of, read_inputs, read_rescue, rescue_holds, words_of
@@ -307,7 +307,7 @@ class Checking:
         """The texts that say the same in each folder, or have a form."""
         if self.folder.read("commands.tsv") != commands_text(self.known.commands):
             self.tell("commands.tsv: not the commands that make these files", UNREAD)
-        if self.folder.read("README.txt") not in (README.encode(), OLDER_README.encode()):
+        if self.folder.read("README.txt") not in [text.encode() for text in READMES]:
             self.tell("README.txt: not the text of these tools", UNREAD)
         if not VERSIONS.fullmatch(self.folder.read("versions.txt")):
             self.tell("versions.txt: not of its form", UNREAD)
@@ -475,7 +475,7 @@ class Checking:
         yield "the numbers of rounds, and who made the journals and when"
         yield "the proofs (`rt ci` in the repository checks them)"
         if here is None:
-            yield "the same by the program: none is built here"
+            yield "the same by the program: none is here, and CLEARING names none"
 
 
 def given_names(names: Iterable[str], made: Set[str]) -> List[str]:

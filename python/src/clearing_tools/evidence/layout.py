@@ -48,6 +48,12 @@ SHA256SUMS     checksums of all files: `sha256sum --check SHA256SUMS`
 
 """
 README = README_BEGIN + """\
+`clearing-evidence check FOLDER` checks all this with Python alone. The command comes with each file of a release: with
+the wheel (pip install FILE.whl), the Debian package and the archive. From the repository it takes bin/clearing-evidence
+and python/src in one folder. The document FORMATS of the package and the archive has the files, and clearing-audit
+--help tells what a journal is checked for.
+"""
+REPOSITORY_README = README_BEGIN + """\
 `clearing-evidence check FOLDER` of the repository checks all this with Python alone; on another machine it needs
 bin/clearing-evidence and python/src of the repository, in one folder. docs/FORMATS.md there has the files, and
 clearing-audit says in its first lines what they mean.
@@ -59,7 +65,8 @@ tools/evidence.py and python/src of the repository, in one folder. docs/FORMATS.
 tools/audit.py says in its
 first lines what they mean.
 """
-"""What folders say that were made before the commands stood in bin/. It goes with the next release."""
+"""What folders say that were made before, and before the commands stood in bin/. Both go with the next release."""
+READMES = (README, REPOSITORY_README, OLDER_README)
 
 
 def most_of(name: str) -> int:

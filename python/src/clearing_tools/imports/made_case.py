@@ -5,6 +5,7 @@ import contextlib
 import dataclasses
 import os
 import pathlib
+import re
 import sys
 from decimal import Decimal
 from fractions import Fraction
@@ -28,6 +29,8 @@ from .units import Network
 WRITTEN = ("case", "replace", "banks", "debts", "out", "label", "summary", "keep-sources")
 """Words that say where something is written, and nothing of what."""
 REFUSED = 1
+LOSS = re.compile(rb"\bamount\b[\"']?\s*=")
+"""The key of what a bank loses, in a file of scenarios."""
 MOST_TOLD = 5
 """So many labels that go are told by name."""
 
@@ -36,7 +39,11 @@ def add_case_words(parser: argparse.ArgumentParser) -> None:
     """The words that make a case of what is imported, and say what belongs to it."""
     add = parser.add_argument
     add("--case", metavar="FOLDER", help="the case to write: a folder with the two files and what belongs to them")
-    add("--replace", action="store_true", help="write over a case that is there; date and labels go, all else stays")
+    add(
+        "--replace",
+        action="store_true",
+        help="write over a case that is there; its date and labels go, and all else stays that is not said anew",
+    )
     add("--keep-sources", action="store_true", help="copies of the sheets in the case")
     add("--title", metavar="TEXT", help="the title of the case")
     add("--as-of", metavar="DATE", type=date_in, help="the date of the amounts, YYYY-MM-DD")
@@ -153,6 +160,8 @@ class CaseOfSheets:
         labels are those of the sheets alone; that they go is told."""
         tell_gone(summary, before, self.labels, self.options)
         options, scale = self.options, self.options.amounts_in or Fraction(1)
+        unit = decimal_of(self.unit * scale)
+        check_losses(before, unit)
         banks, debts = self.texts
         sheets = f"{cases.SHEETS}/" if options.is_kept else ""
         case = Case(
@@ -162,7 +171,7 @@ class CaseOfSheets:
             as_of=options.as_of,
             test=options.test or (before.test if before else None),
             currency=options.currency or (before.currency if before else None),
-            unit=decimal_of(self.unit * scale),
+            unit=unit,
             keep=before.keep if before else None,
             labels=self.labels,
             scenarios=before.scenarios if before else None,
@@ -173,6 +182,18 @@ class CaseOfSheets:
         )
         case.others = before.others if before else {}
         return case
+
+
+def check_losses(before: Optional[Case], unit: Decimal) -> None:
+    """Refuses another unit for a case whose scenarios stay: their losses are units, and would be worth something
+    else."""
+    if before and before.scenarios and LOSS.search(before.scenarios) and before.unit != unit:
+        place = before.paths["scenarios"]
+        raise ToolError(
+            f"{place} has losses in units of {before.unit:,f}, and a unit is {unit:,f} now; remove it, and make it anew"
+            " by clearing-case scenarios",
+            REFUSED,
+        )
 
 
 def tell_gone(summary: Summary, before: Optional[Case], labels: Sequence[Label], options: CaseOptions) -> None:

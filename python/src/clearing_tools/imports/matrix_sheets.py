@@ -5,9 +5,16 @@ from . import made_case
 from .columns import Columns, alike, columns_of, take_alike
 from .faults import HEADER, Faults
 from .left_out import Rates, ask_currencies, columns_shown, currencies_in, is_of_currencies, tell_columns
+from .reading import is_amount
 from .sheet_options import MatrixOptions
 from .summary import Summary
 from .tables import Table, need_column
+
+NO_AMOUNTS = (
+    "; if it tells of the banks, say --label-column, --short-column, --group-column or --country-column with its name,"
+    " and if it is to be left out, --drop with its name"
+)
+"""What is said of a column without amounts that no row has the name of."""
 
 
 class NoBanks(NamedTuple):
@@ -74,7 +81,8 @@ class MatrixSheets:
         others = totals if self.is_one else totals | set(self.table.rows)
         for column in self.bank_columns:
             if column not in self.matrix.rows and column not in others:
-                self.faults.at_header(self.matrix, column or "without a name", "no row of this name")
+                hint = "" if any(map(is_amount, self.matrix.column(column).values())) else NO_AMOUNTS
+                self.faults.at_header(self.matrix, column or "without a name", f"no row of this name{hint}")
         for bank, row in self.matrix.rows.items():
             if bank not in self.matrix and bank not in others:
                 self.faults.at_row(self.matrix, row, f"no column of the name {bank}", kind="no column")

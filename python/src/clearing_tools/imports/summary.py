@@ -13,6 +13,8 @@ from .tables import AnySheet
 
 Line = Tuple[str, Optional[int], Optional[Amount], str]
 COLUMNS = ("what", "count", "amount", "detail")
+SCALE = "amounts of the sheets are in"
+"""What the line begins with that tells how much of the currency an amount of 1 is."""
 
 
 class Summary:
@@ -121,4 +123,11 @@ def tell_scale(summary: Summary, case: CaseOptions) -> None:
     """Tells what the amounts of the sheets are in, where that was said."""
     if case.amounts_in:
         detail = f"{shown(case.amounts_in)} {case.currency or 'of the currency'}"
-        summary.tell("amounts of the sheets are in", detail=detail)
+        summary.tell(SCALE, detail=detail)
+
+
+def scale_told(summary: Optional[ImportSummary]) -> str:
+    """What the amounts of the sheets of a case are in, such as `1,000 EUR`; nothing where the import was told none, or
+    1."""
+    scales = [line.where for line in summary.read if line.what == SCALE] if summary else []
+    return next((scale for scale in scales if scale.split()[0] != "1"), "")

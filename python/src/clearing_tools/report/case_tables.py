@@ -64,10 +64,15 @@ def scenarios_table(matter: Matter) -> Table:
         change = against(matter, base, case.banks) if case is not cases[0] else ""
         cells = [*scenario_cells(case, scale), Cell(change, "st")]
         rows.append(Row(None, case.name, "", cells, case.name in printed))
-    unit = f"Labels and amounts by scenario, {scale.words}"
+    unit = f"Labels and amounts by scenario, {scale.words}{outside_too(matter)}"
     left = sum(not row.is_printed for row in rows)
     note = f"On paper stand the {len(rows) - left - 1} of which most stays unpaid; all are on the page." if left else ""
     return Table("cases", "The scenarios in numbers", unit, SCENARIO_HEADS, rows, None, "stress", note=note)
+
+
+def outside_too(matter: Matter) -> str:
+    """That what all keep less has in it what is paid outside, where some bank owes there."""
+    return "; all keep less: what they have left and what they pay outside" if matter.has_outside else ""
 
 
 def scenario_cells(case: Case, scale: Scale) -> List[Cell]:

@@ -6,11 +6,11 @@ from clearing_client.records import CostBound
 from clearing_client.results import CostBounds
 from clearing_client.table import Table
 
-from ..labels import count
 from ..texts import Bank, due_of, given_by
 from .matter import Matter
 from .program import Program
 from .states import plain
+from .words import counted, number_word
 
 MOST_SHOWN = 12
 
@@ -88,12 +88,13 @@ def sentence(matter: Matter) -> str:
         return ""
     base, least, greatest = costs.base, costs.least, costs.greatest
     start = f"Where a bank in default keeps {share_of(costs.keep)} of its estate, "
-    falls = count(least.defaults, "bank falls", "banks fall") if least.defaults else "no bank falls"
+    fallen = counted(least.defaults) if least.defaults else "no bank"
+    falls = f"{fallen} {'defaults' if least.defaults < 2 else 'default'}"
     both = f"{lost_of(matter, least)}, and {unpaid_of(matter, base, least)}"
     if least == greatest:
-        return f"{start}{falls} at the least as at the greatest payments that clear; {both}."
+        return f"{start}{falls}, at the least payments that clear and at the greatest; {both}."
     return (
-        f"{start}{falls} at the least payments that clear, and {greatest.defaults or 'none'} at the"
+        f"{start}{falls} at the least payments that clear, and {number_word(greatest.defaults)} at the"
         f" greatest. At the least {both};"
         f" at the greatest {lost_of(matter, greatest)}, and {unpaid_of(matter, base, greatest)}."
     )

@@ -45,8 +45,8 @@ def evidence_of(program: Program, inputs: Sequence[Given], verdict: Verdict) -> 
     rows += [("made for a question", path.name, f"{path.stat().st_size:,}", sum_of(path)) for path in program.made]
     return Evidence(
         files=[*rows, ("program", executable.name, f"{executable.stat().st_size:,}", sum_of(executable))],
-        commit=versions.commit_of() or "not known: no repository",
-        toolchain=printed_by("rt", "version") or "not known: the command rt is not on the path",
+        commit=versions.commit_of() or "none: the tools are not in a repository",
+        toolchain=printed_by("rt", "version") or "none: rt is not on the path",
         commands=[(run.words, run.status, sum_of(run.output)) for run in program.commands],
         verdict=verdict,
         made=time.strftime("%Y-%m-%d %H:%M UTC", time.gmtime(description.seconds())),

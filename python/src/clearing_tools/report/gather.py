@@ -13,7 +13,7 @@ from ..stress_text import read_stress
 from .costs import costs_of
 from .evidence import UNLAWFUL, check_same, evidence_of, inputs_of, verdict_of
 from .journal import frames_of, read_journal
-from .matter import Matter
+from .matter import Matter, in_sentence
 from .original import Original, read_files
 from .program import Program
 from .records import Head, Scenario
@@ -102,7 +102,8 @@ class Gathering:
         both = taken.banks, taken.debts
         original = Original(self.program, read_files(*both), both, taken.limits)
         self.rescues = rescues_of(original, self.banks, self.saved)
-        self.changed = changes_of(original, self.banks, self.bounds)
+        self.full = cases.names_of(self.case).check(self.cash)
+        self.changed = changes_of(original, self.banks, self.bounds, lambda name: in_sentence(self.full, name))
         check_same(self.inputs, inputs_of(taken, beside._asdict()))
 
     def result(self, task: str, kind: Type[Answer]) -> Answer:
@@ -134,7 +135,7 @@ class Gathering:
             head=head_of(self.case, len(self.banks)),
             money=self.taken.money,
             banks=self.banks,
-            names=cases.names_of(self.case).check(self.cash),
+            names=self.full,
             cash=self.cash,
             rules={bank.name: bank.rule for bank in self.known},
             debts=self.debts,

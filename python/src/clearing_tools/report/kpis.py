@@ -40,14 +40,19 @@ def default_kpi(matter: Matter) -> Kpi:
 def unpaid_kpi(matter: Matter) -> Kpi:
     """What stays unpaid, as a share of what is owed."""
     share = labels.percent(matter.unpaid, matter.due)
-    words = f"{share} of what is owed; it is no loss: all together keep what cash there was"
+    keep = "banks and those outside together have" if matter.has_outside else "all together keep"
+    words = f"{share} of what is owed; it is no loss: {keep} what cash there was"
     return Kpi("Unpaid", *parts_of(matter, matter.unpaid), words)
 
 
 def owed_kpi(matter: Matter) -> Kpi:
-    """What is owed, by how many debts, and the cash there is."""
-    debts = labels.count(len(matter.debts), "debt")
-    words = f"{debts} between {counted(len(matter.banks))} with {matter.amount(matter.all_cash)} in cash"
+    """What is owed, by how many debts and outside, and the cash there is."""
+    debts = f"{labels.count(len(matter.debts), 'debt')} between {counted(len(matter.banks))}"
+    cash = f"with {matter.amount(matter.all_cash)} in cash"
+    words = f"{debts} {cash}"
+    if matter.has_outside:
+        between = sum(bank.owed for bank in matter.banks)
+        words = f"{matter.amount(between)} by {debts}, {matter.amount(matter.due - between)} outside; {cash}"
     return Kpi("Owed", *parts_of(matter, matter.due), words)
 
 

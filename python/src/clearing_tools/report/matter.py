@@ -21,6 +21,12 @@ if TYPE_CHECKING:
     from .costs import Costs
 
 
+def in_sentence(names: FullNames, name: str) -> str:
+    """A bank in a sentence: its full name where it has one, cut where it is long, and held apart where it runs from
+    right to left."""
+    return labels.held(short(labels.shown(names(name))))
+
+
 @dataclasses.dataclass(frozen=True)
 class Matter:
     """All that a report says. `names` are the full names of banks; `more` is by how much greater payments would
@@ -54,9 +60,8 @@ class Matter:
         return self.called(name) + (f" {MARK}" if name in self.unsure else "")
 
     def in_sentence(self, name: str) -> str:
-        """A bank in a sentence: its full name where it has one, cut where it is long, held apart where it runs from
-        right to left, and marked where one unit decides its figures."""
-        return labels.held(short(labels.shown(self.names(name)))) + (f"\u00a0{MARK}" if name in self.unsure else "")
+        """A bank in a sentence, marked where one unit decides its figures."""
+        return in_sentence(self.names, name) + (f"\u00a0{MARK}" if name in self.unsure else "")
 
     def listed(self, names: Sequence[str], most: int = 4) -> str:
         """Some banks in a sentence."""

@@ -33,10 +33,12 @@ HALF = Unit("half-unit", "unit half as large", lambda units: 2 * units, parts=2)
 
 
 class Stands:
-    """The case, and the program that clears it changed."""
+    """The case, what its banks are called in a sentence, and the program that clears it changed."""
 
-    def __init__(self, original: Original, banks: Sequence[Bank], bounds: Bounds) -> None:
-        self.original, self.bounds = original, bounds
+    def __init__(
+        self, original: Original, banks: Sequence[Bank], bounds: Bounds, called: Callable[[str], str]
+    ) -> None:
+        self.original, self.bounds, self.called = original, bounds, called
         self.base = {bank.name: plain(bank.state) for bank in banks}
         self.unpaid = sum(map(shortfall_of, banks))
 
@@ -69,7 +71,7 @@ class Stands:
 
     def few(self, names: List[str]) -> str:
         """Some banks by name, or how many there are."""
-        return listed(names) if len(names) <= MOST_NAMES else count(len(names), "bank")
+        return listed(list(map(self.called, names))) if len(names) <= MOST_NAMES else count(len(names), "bank")
 
     def by_rule(self, rule: str, words: str) -> Change:
         """The case with one rule for all banks."""
@@ -125,9 +127,11 @@ def in_unit(amount: str, unit: Unit) -> str:
     return str(unit.amount(int(amount)))
 
 
-def changes_of(original: Original, banks: Sequence[Bank], bounds: Bounds) -> List[Change]:
+def changes_of(
+    original: Original, banks: Sequence[Bank], bounds: Bounds, called: Callable[[str], str]
+) -> List[Change]:
     """The case, changed in one point each."""
-    return Stands(original, banks, bounds).all()
+    return Stands(original, banks, bounds, called).all()
 
 
 def title_of(changes: List[Change], unsure: Set[str]) -> str:

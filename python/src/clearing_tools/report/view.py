@@ -54,6 +54,11 @@ class View:
         ]
 
     @property
+    def has_more_names(self) -> bool:
+        """Whether some bank is called as in the files, beside those that have full names."""
+        return any(bank.name not in self.matter.names.full for bank in self.matter.banks)
+
+    @property
     def meta(self) -> List[str]:
         """The line under the title: the date, the test, the list, the version, the author, each also where it is not
         stated."""

@@ -1,7 +1,7 @@
 // What is asked of a bank: what saves it, what its ruin costs, and at which cut it falls.
 import { by, make } from "./elements.mjs";
 import { askOne } from "./questions.mjs";
-import { listed } from "./sentences.mjs";
+import { ended, listed } from "./sentences.mjs";
 import { number } from "./texts.mjs";
 
 const MOST_SAVED = 5, MOST_FALLEN = 8; // banks that are named
@@ -14,14 +14,14 @@ const rescueWords = (desk, piece, bank) => {
   const others = piece.rows.map(([other]) => other).filter((other) => other !== bank);
   const names = (banks, last) => listed(banks.map((other) => desk.short(other)), MOST_SAVED, last);
   const saves = own?.[2].length ? ` That saves ${names(own[2])} too.` : "";
-  const instead = others.length ? ` So would the sum that saves ${names(others, "or")}.` : "";
+  const instead = others.length ? ended(` So would the sum that saves ${names(others, "or")}`) : "";
   return `${needs(own?.[1] ?? 0)}${saves}${instead}`;
 };
 
 /** What the ruin of a bank costs, in words. */
 const ruinWords = (desk, { cash, own, others, fallen }) => {
   const names = listed(fallen.map((bank) => desk.short(bank)), MOST_FALLEN);
-  const falls = fallen.length ? `${number(fallen.length)} more fall: ${names}.` : "no other bank falls.";
+  const falls = fallen.length ? ended(`${number(fallen.length)} more fall: ${names}`) : "no other bank falls.";
   return (
     `Where it loses all its cash, ${desk.say(cash)}, it keeps ${desk.say(own)} less `
     + `and others ${desk.say(others)} less; ${falls}`

@@ -2,13 +2,12 @@
 import { bankButton } from "./bankbutton.mjs";
 import { changedBanks } from "./changed.mjs";
 import { by, make } from "./elements.mjs";
-import { listed } from "./sentences.mjs";
-import { number } from "./texts.mjs";
+import { ended, listed } from "./sentences.mjs";
 
 const FIELDS = { cash: "cash", rule: "rule", outside: "owed outside" };
 const MOST_LOSSES = 40; // that are named
 
-const text = (value) => (typeof value === "number" ? number(value) : value);
+const text = (desk, value) => (typeof value === "number" ? desk.exactly(value) : value);
 
 /** A button that takes a change back. */
 const takeBack = (desk, change) => make("button", { type: "button", click: () => desk.change(change) }, "Take back");
@@ -16,9 +15,9 @@ const takeBack = (desk, change) => make("button", { type: "button", click: () =>
 /** What was changed of all banks: the scenario, what default keeps, the cut, and losses beside it. */
 const linesOfAll = (desk) => {
   const { view, base, network } = desk;
-  const losses = view.losses.map(([bank, amount]) => `${desk.name(bank)} ${number(amount)}`);
+  const losses = view.losses.map(([bank, amount]) => `${desk.name(bank)} ${desk.exactly(amount)}`);
   return [
-    view.scenario ? `Scenario: ${network.scenarios[view.scenario - 1].name}.` : "",
+    view.scenario ? ended(`Scenario: ${network.scenarios[view.scenario - 1].name}`) : "",
     view.keep === base.keep ? "" : `Default keeps ${view.keep} per mille of an estate.`,
     view.cut ? `All cash is cut by ${view.cut} per mille.` : "",
     losses.length ? `Beside the cut is lost: ${listed(losses, MOST_LOSSES)}.` : "",
@@ -28,24 +27,24 @@ const linesOfAll = (desk) => {
 /** What was changed of a bank. */
 const lineOfBank = (desk, { bank, field, before, now }) => make("li", {},
   bankButton(desk, bank),
-  `: ${FIELDS[field]} ${text(now)} in place of ${text(before)} `,
+  `: ${FIELDS[field]} ${text(desk, now)} in place of ${text(desk, before)} `,
   takeBack(desk, { set: "bank", bank, field, value: String(before) }),
 );
 
 /** What was changed of a debt in words, and the change that takes it back. */
-const changeOfDebt = (key, before, now) => {
-  if (before === null) return { words: `a debt of ${number(now)} is added`, back: { set: "strike", debt: key } };
+const changeOfDebt = (desk, key, before, now) => {
+  if (before === null) return { words: `a debt of ${desk.exactly(now)} is added`, back: { set: "strike", debt: key } };
   if (now === null) {
-    return { words: `the debt of ${number(before)} is struck`, back: { set: "strike", debt: key, again: true } };
+    return { words: `the debt of ${desk.exactly(before)} is struck`, back: { set: "strike", debt: key, again: true } };
   }
   return {
-    words: `the debt is ${number(now)} in place of ${number(before)}`,
+    words: `the debt is ${desk.exactly(now)} in place of ${desk.exactly(before)}`,
     back: { set: "claim", debt: key, value: String(before) },
   };
 };
 
 const lineOfDebt = (desk, [key, debtor, creditor, rank, before, now]) => {
-  const { words, back } = changeOfDebt(key, before, now);
+  const { words, back } = changeOfDebt(desk, key, before, now);
   return make("li", {},
     `${desk.name(debtor)} to ${desk.name(creditor)}, class ${rank}: ${words} `,
     takeBack(desk, back),

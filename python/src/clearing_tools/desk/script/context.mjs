@@ -132,6 +132,15 @@ export class Context {
   }
 
   /**
+   * An amount of what was changed, to the last unit.
+   * @param {number} units
+   * @returns {string}
+   */
+  exactly(units) {
+    return this.network.hasUnit ? this.money.with(this.money.exact(units)) : number(units);
+  }
+
+  /**
    * The kept state that a state is, with its name; nothing of one that is not kept.
    * @param {{id: number}} view
    */

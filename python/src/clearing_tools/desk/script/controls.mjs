@@ -4,7 +4,6 @@ import { whyNoScenario } from "./changed.mjs";
 import { by, fieldBy } from "./elements.mjs";
 import { showFault } from "./fields.mjs";
 import { newest } from "./newest.mjs";
-import { number } from "./texts.mjs";
 
 const SLIDERS = ["cut", "keep"]; // per mille
 const TAKES = ["session", "case", "scenarios", "scenario", "report", "evidence", "banks", "debts"];
@@ -58,7 +57,7 @@ export const showControls = (desk) => {
   showSliders(view);
   fieldBy("scenario").value = String(view.scenario);
   fieldBy("build-copy").disabled = !view.scenario;
-  const losses = view.losses.map(([bank, amount]) => `${desk.name(bank)} ${number(amount)}`);
+  const losses = view.losses.map(([bank, amount]) => `${desk.name(bank)} ${desk.exactly(amount)}`);
   by("losses").textContent = losses.length ? `Beside the cut is lost: ${losses.join(", ")}.` : "";
   for (const field of [...SLIDERS, "scenario"]) showFault(field, null);
   fieldBy("undo").disabled = line.before === undefined;

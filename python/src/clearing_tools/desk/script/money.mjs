@@ -10,6 +10,12 @@ const POWERS = [[9, "billion"], [6, "million"], [3, "thousand"]]; // of ten, of 
 const FROM_BILLIONS = 999.5e6; // what is said in billions: from here on it is 1.00 of them
 const FROM_MILLIONS = 10e6; // what is said in whole millions
 
+/** A whole number, of two that are as near the even one: so does the report. */
+const rounded = (value) => {
+  const whole = Math.round(value);
+  return Math.abs(value % 1) === HALF && whole % 2 ? whole - 1 : whole;
+};
+
 /**
  * A scale: what its numbers are in, and an amount of so many units of account as a number in it.
  * @typedef {{words: string, number: (units: number) => string}} Scale
@@ -57,7 +63,7 @@ export class Money {
     const value = units * this.unit;
     const size = Math.abs(value);
     if (size >= FROM_BILLIONS) return this.with(`${value < 0 ? "−" : ""}${(size / BILLION).toFixed(2)}`, "billion");
-    if (this.hasUnit && size >= FROM_MILLIONS) return this.with(minus(Math.round(value / MILLION)), "million");
+    if (this.hasUnit && size >= FROM_MILLIONS) return this.with(minus(rounded(value / MILLION)), "million");
     return this.currency || this.hasUnit
       ? this.with(this.exact(units))
       : `${minus(units)}${SPACE}${Math.abs(units) === 1 ? "unit" : "units"}`;
@@ -125,5 +131,5 @@ const fixed = (value) => {
 
 const shortened = (value) => {
   const size = Math.abs(value);
-  return size && size <= HALF ? signed(value, "<1") : minus(Math.round(value));
+  return size && size <= HALF ? signed(value, "<1") : minus(rounded(value));
 };

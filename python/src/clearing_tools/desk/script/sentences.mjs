@@ -21,6 +21,13 @@ export const word = (count) => WORDS[count] ?? number(count);
 export const begun = (text) => `${text.slice(0, 1).toUpperCase()}${text.slice(1)}`;
 
 /**
+ * A sentence with a full stop, and with one alone where its last word ends with one, as the name of a bank may.
+ * @param {string} text
+ * @returns {string}
+ */
+export const ended = (text) => (text.endsWith(".") ? text : `${text}.`);
+
+/**
  * Names in a sentence.
  * @param {string[]} names
  * @param {number} [most] how many of them are named; the rest are counted
