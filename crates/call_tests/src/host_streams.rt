@@ -74,7 +74,10 @@ fn an_interrupted_write_is_tried_again_and_a_failed_one_is_the_last(
     let long = vec![in rt.alloc(); b'1'; 100_000]?;
     for (answers, told, writes, flushes) in &PUTS {
         assert_eq!(rt; put_to(answers, b"A,B,1"), (*told, *writes, *flushes));
-        assert_eq!(rt; put_to(answers, long.as_slice()), (*told, *writes, *flushes));
+        assert_eq!(rt;
+            put_to(answers, long.as_slice()),
+            (*told, *writes, *flushes)
+        );
     }
     Ok(())
 }
