@@ -328,7 +328,7 @@ class LargeReports(unittest.TestCase):
         ):  # fmt: skip
             debts = [[f"A{at}", "B", "1", str(claim)] for at, claim in enumerate(claims)]
             files = original.Files(["name", "cash", "rule"], [["B", "1", "order"]], header, debts)
-            one = stands.Stands(original.Original(program, files, ("b.csv", "d.csv"), limits), [], None)
+            one = stands.Stands(original.Original(program, files, ("b.csv", "d.csv"), limits), [], None, str)
             self.assertEqual(one.may_double(), may, claims)
             if may:
                 one.by_unit(stands.HALF)
