@@ -1,3 +1,5 @@
+ghost use Rattle.std.specs.Prelude.{◌<◌, length};
+
 use clr_edge::{Sink, SinkFault};
 use clr_host::StdSink;
 use std::io;
@@ -57,7 +59,9 @@ const PUTS: [Put<'static>; 6] = [
     (&[Unflushed, Taken], Err(SinkFault), 1, 1),
 ];
 
-fn put_to(answers: &[Answer], piece: &[u8]) -> (Result<usize, SinkFault>, usize, usize) {
+fn put_to(answers: &[Answer], piece: &[u8]) -> (Result<usize, SinkFault>, usize, usize)
+    requires { 0 < length piece.now }
+{
     let mut stream = Scripted {
         answers,
         writes: 0,
