@@ -22,12 +22,13 @@ use Rattle.bank_worker.proofs.PlacesOfBanks.{not_after}
 use Rattle.bank_worker.proofs.Raising.{raised_in_either, length-debts_of}
 use Rattle.bank_worker.proofs.Ringing.{creditor_noted, debt_of_raise, length-creditors_of}
 
--- a bank of the set from one on stands in no earlier place, and where none before it is in both sets, none that stands between
--- them is called
+-- a called bank of the set from one on stands in no earlier place, where none before it is in both sets: none that stands between
+-- them is called, and the one that stands there is
 pub next_place : (banks mine called : List ℕ) (workers from b : ℕ) → AreInPlace banks mine workers → from < length banks → get_or banks from 0 ≤ b → is_in mine b ≡ true
-    → HaveNoneInBoth mine called (get_or banks from 0) b
+    → is_in called b ≡ true → HaveNoneInBoth mine called (get_or banks from 0) b
     → (from ≤ b / workers) × ((k : ℕ) → from ≤ k → k < b / workers → is_in called (get_or banks k 0) ≡ false)
-next_place banks mine called workers from b h lt ge e none =
+    × (is_in called (get_or banks (b / workers) 0) ≡ true)
+next_place banks mine called workers from b h lt ge e there none =
     let p = h.out.only b e in
     let place : b / workers ≡ p.0 = ap (λ n. n / workers) (sym p.2) ∙ (h.out.placed p.0 p.1).1 in (
       elim (cases_lt p.0 from) [ inl less ↦ absurd (omega (arith, p.2, h.rise p.0 from 0 less lt)) | inr le ↦ omega (arith, place) ],
@@ -35,6 +36,7 @@ next_place banks mine called workers from b h lt ge e none =
           let l : k < p.0 = omega (arith, place) in
           let in_list : k < length banks = omega (arith, p.1) in
           none (get_or banks k 0) (not_after banks from k h.rise le in_list) (omega (arith, p.2, h.rise k p.0 0 l p.1)) (h.out.placed k in_list).0,
+      ap (λ k. is_in called (get_or banks k 0)) place ∙ ap (λ n. is_in called n) p.2 ∙ there,
     )
 
 -- where all banks are called, so are those of the desks

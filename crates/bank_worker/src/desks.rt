@@ -6,7 +6,7 @@ ghost use Rattle.bank_worker.specs.Rings.{is_among};
 ghost use Rattle.bank_worker.specs.Views.{banks_of, desk_at};
 ghost use Rattle.clr_net.specs.Net.{cash_of as cash_in};
 ghost use Rattle.clr_net.specs.declared.TheConstants.{MAX_BANKS, MAX_CASH};
-ghost use Rattle.std.specs.Prelude.{◌≡◌, ◌<◌, ◌≤◌, ℕ, All, IfOk, false, length, map};
+ghost use Rattle.std.specs.Prelude.{◌≡◌, ◌<◌, ◌≤◌, ℕ, All, IfOk, false, length, map, true};
 
 use crate::bank_set::BankSet;
 use bank_desk::Desk;
@@ -96,14 +96,15 @@ impl Desks {
         self.banks.as_slice()
     }
 
-    /// Where to go on from this place: between it and the answer no desk is of a called bank. The
-    /// answer is the place of the next desk that is of one, or past all desks if there is none.
-    /// Costs a look at each word of a set between them.
+    /// The place of the next desk, from this place on, whose bank is called; past all desks if
+    /// there is none. Costs a look at each word of a set between them.
     pub fn next_called(&self, called: &BankSet, from: usize) -> usize
         requires from { from ≤ length self.now }
         ensures ahead { from ≤ result }
         ensures none_before { (k : ℕ) → from ≤ k → k < result → k < length self.now
             → is_in called.now (desk_at self.now k).bank ≡ false }
+        ensures called_there { result < length self.now
+            → is_in called.now (desk_at self.now result).bank ≡ true }
     {
         let banks = self.banks.as_slice();
         if from == banks.len() {

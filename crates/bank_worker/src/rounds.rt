@@ -101,6 +101,8 @@ impl Worker {
         ensures ahead { from ≤ result }
         ensures none_before { (k : ℕ) → from ≤ k → k < result → k < length self.now.desks
             → is_in called.now (desk_at self.now.desks k).bank ≡ false }
+        ensures called_there { result < length self.now.desks
+            → is_in called.now (desk_at self.now.desks result).bank ≡ true }
     {
         self.office.desks().next_called(called, from)
     }

@@ -112,8 +112,8 @@ pub(crate) fn lay_out(desk: &Desk, received: u64, targets: &mut Vec<u64>)
     desk.target(received, targets.as_mut_slice());
 }
 
-// Gives a list so many places, for which it has the room. What stands in them means nothing until
-// it is written.
+// Gives the list so many places, for which it has the room, and writes as few of them as it can: a
+// visit writes them all.
 fn set_places(targets: &mut Vec<u64>, places: usize)
     requires { places ≤ vec_capacity targets.old }
     ensures places { vec_len targets.new ≡ places }

@@ -7,9 +7,7 @@ use Rattle.clr_net.specs.Lines.{line}
 use Rattle.clr_net.specs.Net.{Net, name_of, all_cash}
 use Rattle.cascade.specs.Standings.{bank_numbers, is_default}
 use Rattle.cascade.specs.declared.standing.Standing.{Standing}
-use Rattle.clear_report.specs.Fields.{bytes_of}
 use Rattle.clear_report.specs.Words.{at_place, number_line, state_word}
-use Rattle.clear_report.specs.declared.defaults.Columns.{Columns}
 
 -- whether some bank owes something outside the network. Where none does, the text has no column of
 -- what is paid outside
@@ -19,12 +17,6 @@ owes_outside net = not (list_all (λ b. b.outside == 0) net.banks)
 -- a field of that column, where there is one
 abbrev pub if_shown : Bool → List ℕ → List (List ℕ)
 if_shown shown field = if shown then field ∷ [] else []
-
--- a line of these fields, with that column or without
-abbrev pub columns_line : Bool → Columns → List ℕ
-columns_line outside c = line (
-    bytes_of c.name ∷ bytes_of c.estate ∷ if_shown outside (bytes_of c.outside_paid)
-    ++ bytes_of c.paid ∷ bytes_of c.owed ∷ bytes_of c.equity ∷ bytes_of c.state ∷ [])
 
 -- the header
 abbrev pub defaults_header : Bool → List ℕ

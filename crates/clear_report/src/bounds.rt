@@ -94,7 +94,13 @@ impl<'a> BankTable for Waves<'a> {
 
     ghost line_of = { λ t net. wave_line_of net t.waves.now t.standings.now };
 
-    fn push(&self, text: &mut Vec<u8>, net: &Network, bank: BankId) -> Result<(), Mem> {
+    fn push(
+        &self,
+        text: &mut Vec<u8>,
+        _room: &mut Line,
+        net: &Network,
+        bank: BankId,
+    ) -> Result<(), Mem> {
         let place = bank.0 as usize;
         push_wave(
             text,

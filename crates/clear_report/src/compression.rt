@@ -141,7 +141,13 @@ impl<'a> BankTable for Ranks<'a> {
 
     ghost line_of = { λ t net. rank_line_of net t.ranks.now t.class };
 
-    fn push(&self, text: &mut Vec<u8>, net: &Network, bank: BankId) -> Result<(), Mem> {
+    fn push(
+        &self,
+        text: &mut Vec<u8>,
+        _room: &mut Line,
+        net: &Network,
+        bank: BankId,
+    ) -> Result<(), Mem> {
         let first = (self.class as usize - 1) * net.banks() as usize;
         let rank = self.ranks[first + bank.0 as usize];
         push_line(

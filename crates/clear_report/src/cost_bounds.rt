@@ -5,6 +5,7 @@ ghost use Rattle.std.specs.Prelude.{◌≡◌, ◌++◌, length, IfOk, OnOk};
 use crate::bounds::{DebtBounds, debts_table};
 use crate::line::{Field, name, push_line, state_word};
 use crate::table::{BankTable, push_banks};
+use clr_edge::line::Line;
 use clr_net::{BankId, Mem, Network};
 use costs::CostStanding;
 use std::alloc::Global;
@@ -57,7 +58,13 @@ impl<'a> BankTable for Ends<'a> {
 
     ghost line_of = { λ t net. ends_line_of net t.at_least.now t.at_greatest.now };
 
-    fn push(&self, text: &mut Vec<u8>, net: &Network, bank: BankId) -> Result<(), Mem> {
+    fn push(
+        &self,
+        text: &mut Vec<u8>,
+        _room: &mut Line,
+        net: &Network,
+        bank: BankId,
+    ) -> Result<(), Mem> {
         let place = bank.0 as usize;
         push_ends(
             text,

@@ -1,14 +1,17 @@
-ghost use Rattle.clear_report.specs.Defaults.{bank_line, columns_line, defaults_header};
+ghost use Rattle.clear_report.specs.Defaults.{bank_line, defaults_header};
 ghost use Rattle.clear_report.specs.Defaults.{defaults_text};
 ghost use Rattle.clear_report.specs.Defaults.{owes_outside as owes_any_outside, standing_line};
 ghost use Rattle.clear_report.specs.Defaults.{total_line};
-ghost use Rattle.std.specs.Prelude.{◌≡◌, ◌++◌, length, IfOk, OnOk};
+ghost use Rattle.clr_edge.specs.declared.line.TheConstants.{MAX_LINE};
+ghost use Rattle.std.specs.Fmt.{decimal};
+ghost use Rattle.std.specs.Prelude.{◌≡◌, ◌+◌, ◌≤◌, ◌++◌, ◌∷◌, if◌then◌else◌, length, IfOk, OnOk};
 
-use crate::line::{Field, name, push_line, state_word};
+use crate::line::{Field, push_line, state_word};
 use crate::sums::{defaults_of, totals_of};
 use crate::table::{BankTable, push_banks};
 use cascade::Standing;
-use clr_net::{BankId, Mem, Network};
+use clr_edge::line::Line;
+use clr_net::{BankId, Mem, Name, Network};
 use std::alloc::Global;
 
 /// The text of who defaults: a header, a line for each bank in file order, a line of the sums and
@@ -65,32 +68,42 @@ impl<'a> BankTable for Standings<'a> {
 
     ghost line_of = { λ t net. bank_line net t.outside t.all.now };
 
-    fn push(&self, text: &mut Vec<u8>, net: &Network, bank: BankId) -> Result<(), Mem> {
+    fn push(
+        &self,
+        text: &mut Vec<u8>,
+        room: &mut Line,
+        net: &Network,
+        bank: BankId,
+    ) -> Result<(), Mem> {
         let standing = self.all[bank.0 as usize];
-        push_standing(text, self.outside, name(net, bank), standing)
+        lay_out(room, self.outside, &net.bank(bank).name, standing);
+        text.extend_from_slice(room.bytes())?;
+        Ok(())
     }
 }
 
-// Appends the line of a bank of this name.
-fn push_standing(
-    text: &mut Vec<u8>,
-    outside: bool,
-    name: &[u8],
-    standing: Standing,
-) -> Result<(), Mem>
-    ensures { OnOk result
-        (text.new.items ≡ text.old.items ++ standing_line outside name.now standing) }
+// Writes the line of a bank of this name, from its end.
+fn lay_out(line: &mut Line, outside: bool, name: &Name, standing: Standing)
+    ensures { line.new ≡ standing_line outside name.now standing }
 {
-    let row = Columns {
-        name: Field::Word(name),
-        estate: Field::Number(standing.estate),
-        outside_paid: Field::Number(standing.outside_paid),
-        paid: Field::Number(standing.paid),
-        owed: Field::Number(standing.owed),
-        equity: Field::Number(standing.equity),
-        state: Field::Word(state_word(standing.health).as_bytes()),
-    };
-    push_columns(text, outside, row)
+    line.begin_word(state_word(standing.health).as_bytes());
+    line.add_number(standing.equity);
+    line.add_number(standing.owed);
+    line.add_number(standing.paid);
+    add_outside(line, outside, standing.outside_paid);
+    line.add_number(standing.estate);
+    line.add_name(name);
+}
+
+// Puts what is paid outside the network before the other fields, where there is a column of it.
+fn add_outside(line: &mut Line, outside: bool, paid: u64)
+    requires room { length line.old + 21 ≤ MAX_LINE }
+    ensures bytes { line.new ≡ (if outside then decimal paid ++ 44 ∷ line.old else line.old) }
+    ensures more { length line.new ≤ length line.old + 21 }
+{
+    if outside {
+        line.add_number(paid);
+    }
 }
 
 // Appends the line of the sums over all banks, and of how many are in default.
@@ -98,49 +111,30 @@ fn push_total(text: &mut Vec<u8>, outside: bool, standings: &[Standing]) -> Resu
     ensures { OnOk result (text.new.items ≡ text.old.items ++ total_line outside standings.now) }
 {
     let [estate, outside_paid, paid, owed, equity] = totals_of(standings);
-    let row = Columns {
-        name: Field::Word(b"total"),
-        estate: Field::Sum(estate),
-        outside_paid: Field::Sum(outside_paid),
-        paid: Field::Sum(paid),
-        owed: Field::Sum(owed),
-        equity: Field::Sum(equity),
-        state: Field::Number(defaults_of(standings)),
-    };
-    push_columns(text, outside, row)
-}
-
-// The fields of a line, of a bank or of all: the state of all is how many are in default.
-#[derive(Clone, Copy)]
-struct Columns<'a> {
-    name: Field<'a>,
-    estate: Field<'a>,
-    outside_paid: Field<'a>,
-    paid: Field<'a>,
-    owed: Field<'a>,
-    equity: Field<'a>,
-    state: Field<'a>,
-}
-
-// Appends a line of these fields, with what is paid outside the network or without.
-fn push_columns(text: &mut Vec<u8>, outside: bool, row: Columns) -> Result<(), Mem>
-    ensures { OnOk result (text.new.items ≡ text.old.items ++ columns_line outside row.entry) }
-{
-    let Columns {
-        name,
-        estate,
-        outside_paid,
-        paid,
-        owed,
-        equity,
-        state,
-    } = row;
     if outside {
         push_line(
             text,
-            &[name, estate, outside_paid, paid, owed, equity, state],
+            &[
+                Field::Word(b"total"),
+                Field::Sum(estate),
+                Field::Sum(outside_paid),
+                Field::Sum(paid),
+                Field::Sum(owed),
+                Field::Sum(equity),
+                Field::Number(defaults_of(standings)),
+            ],
         )
     } else {
-        push_line(text, &[name, estate, paid, owed, equity, state])
+        push_line(
+            text,
+            &[
+                Field::Word(b"total"),
+                Field::Sum(estate),
+                Field::Sum(paid),
+                Field::Sum(owed),
+                Field::Sum(equity),
+                Field::Number(defaults_of(standings)),
+            ],
+        )
     }
 }

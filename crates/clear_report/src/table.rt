@@ -18,8 +18,14 @@ pub trait BankTable {
     // The line of a bank.
     ghost line_of: { Self → Net → ℕ → List ℕ };
 
-    // Appends the line of a bank.
-    fn push(&self, text: &mut Vec<u8>, net: &Network, bank: BankId) -> Result<(), Mem>
+    // Appends the line of a bank, which may be written in this room first.
+    fn push(
+        &self,
+        text: &mut Vec<u8>,
+        room: &mut Line,
+        net: &Network,
+        bank: BankId,
+    ) -> Result<(), Mem>
         requires over { over self.now net.now }
         requires bank { bank.0 < length net.now.banks }
         ensures { OnOk result
@@ -32,8 +38,9 @@ pub fn push_bank_rows<T: BankTable>(text: &mut Vec<u8>, net: &Network, table: &T
     ensures { OnOk result (text.new.items
         ≡ text.old.items ++ flat_map (T.line_of table.now net.now) (bank_numbers net.now)) }
 {
+    let mut room = Line::empty();
     for number in 0..net.banks() {
-        table.push(text, net, BankId(number))?;
+        table.push(text, &mut room, net, BankId(number))?;
     }
     Ok(())
 }
@@ -74,7 +81,13 @@ impl<'a, T: Row> BankTable for Each<'a, T> {
 
     ghost line_of = { λ t net i. at_place (λ row. T.told row (name_of net i)) t.all.now i };
 
-    fn push(&self, text: &mut Vec<u8>, net: &Network, bank: BankId) -> Result<(), Mem> {
+    fn push(
+        &self,
+        text: &mut Vec<u8>,
+        _room: &mut Line,
+        net: &Network,
+        bank: BankId,
+    ) -> Result<(), Mem> {
         self.all[bank.0 as usize].push(text, name(net, bank))
     }
 }

@@ -9,7 +9,7 @@ ghost use Rattle.std.specs.List.{flat_map};
 ghost use Rattle.std.specs.Prelude.{◌≡◌, ◌++◌, ◌∷◌, [], OnOk, OnErr, map};
 
 use clr_edge::line::Line;
-use clr_edge::{Sink, SinkFault, pass, put_all};
+use clr_edge::{Sink, SinkFault, pass, pass_both, put_all};
 
 /// The block of a scenario as it waits to be written: what stands above the lines of its payments,
 /// what is paid on each debt, in file order, and what stands below these lines.
@@ -141,6 +141,5 @@ fn pass_line<S: Sink>(
         room.old.items room.new.items (head.now ++ line (decimal paid ∷ [])) result }
 {
     end.begin(u64::from(paid));
-    pass(sink, room, head)?;
-    pass(sink, room, end.bytes())
+    pass_both(sink, room, head, end.bytes())
 }

@@ -130,7 +130,7 @@ fn in_four_bytes(alloc: Global, paid: &[u64]) -> Result<Vec<u32>, Mem>
 {
     let mut kept = Vec::with_capacity(alloc, paid.len())?;
     for units in paid {
-        kept.push(*units as u32)?;
+        kept.push_reserved(*units as u32);
     }
     Ok(kept)
 }

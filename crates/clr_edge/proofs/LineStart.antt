@@ -13,16 +13,16 @@ pub starts_late : (bytes line : List ℕ) (start more : ℕ) → length bytes �
     → length line + more ≤ 256 → more ≤ start
 starts_late bytes line start more l e some room = omega (arith, length-drop start bytes, ap length e)
 
--- a comma is put before a line, and then other bytes before it
-pub put_before : (bytes text : List ℕ) (start end : ℕ) → end + 1 ≡ start → start ≤ length bytes → length text ≤ end
-    → drop (end - length text) (put_mid (end - length text) (end - (end - length text)) (set bytes end 44) text) ≡ text ++ 44 ∷ drop start bytes
-put_before bytes text start end next within fits =
+-- a byte is put before a line, and then other bytes before it
+pub put_before : (bytes text : List ℕ) (mark start end : ℕ) → end + 1 ≡ start → start ≤ length bytes → length text ≤ end
+    → drop (end - length text) (put_mid (end - length text) (end - (end - length text)) (set bytes end mark) text) ≡ text ++ mark ∷ drop start bytes
+put_before bytes text mark start end next within fits =
     let first = end - length text in
-    let marked = set bytes end 44 in
+    let marked = set bytes end mark in
     drop_at (take first marked) (text ++ post_of first (end - first) marked) first
-    (length-take-le first marked (omega (arith, length-set bytes end 44)))
+    (length-take-le first marked (omega (arith, length-set bytes end mark)))
     ∙ ap (λ (l : List ℕ). text ++ l)
-    (Post-is first end marked (omega arith) ∙ drop-set bytes end 44 (omega arith) ∙ ap (λ (n : ℕ). 44 ∷ drop n bytes) next)
+    (Post-is first end marked (omega arith) ∙ drop-set bytes end mark (omega arith) ∙ ap (λ (n : ℕ). mark ∷ drop n bytes) next)
 
 -- a name and a comma make a line no longer than they may be
 pub longer_by_name : (line name new : List ℕ) → new ≡ name ++ 44 ∷ line → length name ≤ 64 → length new ≤ length line + 65

@@ -22,7 +22,7 @@ mod texts;
 pub use gate::{Gate, OpenGate};
 pub use mem_shelf::MemShelf;
 pub use mem_sink::MemSink;
-pub use passing::pass;
+pub use passing::{pass, pass_both};
 pub use shelf::{FetchFault, Shelf};
 pub use sink::{Sink, SinkFault, put_all};
 pub use texts::Text;

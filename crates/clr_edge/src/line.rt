@@ -49,6 +49,16 @@ impl Line {
         self.start = write_digits(number, &mut self.bytes, MAX_LINE - 1);
     }
 
+    /// Begins the line anew, with a word as its last field.
+    pub fn begin_word(&mut self, word: &[u8])
+        requires room { length word.now ≤ 64 }
+        ensures line { self.new ≡ line (word.now ∷ []) }
+        ensures short { length self.new ≤ 65 }
+    {
+        self.start = MAX_LINE;
+        self.put(word, b'\n');
+    }
+
     /// Puts a number before the other fields.
     pub fn add_number(&mut self, number: u64)
         requires room { length self.old + 21 ≤ MAX_LINE }
@@ -66,11 +76,18 @@ impl Line {
         ensures bytes { self.new ≡ name.now ++ 44 ∷ self.old }
         ensures more { length self.new ≤ length self.old + 65 }
     {
-        let end = self.start - 1;
-        self.bytes[end] = b',';
-        let name = name.bytes();
-        let start = end - name.len();
-        self.bytes[start..end].copy_from_slice(name);
+        self.put(name.bytes(), b',');
+    }
+
+    // Puts a field and the byte that ends it before the bytes that are there.
+    fn put(&mut self, field: &[u8], end: u8)
+        requires room { length self.old + length field.now + 1 ≤ MAX_LINE }
+        ensures bytes { self.new ≡ field.now ++ end ∷ self.old }
+    {
+        let place = self.start - 1;
+        self.bytes[place] = end;
+        let start = place - field.len();
+        self.bytes[start..place].copy_from_slice(field);
         self.start = start;
     }
 

@@ -1,5 +1,6 @@
 //! Bytes that pass a room on their way to a sink, so that short pieces are put together.
 ghost use Rattle.clr_edge.specs.Taking.{PassesOn, on_sink};
+ghost use Rattle.std.specs.Prelude.{◌++◌};
 
 use crate::sink::{Sink, SinkFault, put_all};
 
@@ -14,6 +15,26 @@ pub fn pass<S: Sink>(sink: &mut S, room: &mut Vec<u8>, bytes: &[u8]) -> Result<(
         return pass_on(sink, room, bytes);
     }
     room.extend_from_slice(bytes).unwrap();
+    Ok(())
+}
+
+/// Puts two pieces, one after the other, as [`pass`] puts each.
+pub fn pass_both<S: Sink>(
+    sink: &mut S,
+    room: &mut Vec<u8>,
+    first: &[u8],
+    second: &[u8],
+) -> Result<(), SinkFault>
+    ensures { PassesOn S.counts_faults_alone (on_sink S.written S.faults sink.old sink.new)
+        room.old.items room.new.items (first.now ++ second.now) result }
+{
+    let free = room.capacity() - room.len();
+    if first.len() > free || second.len() > free - first.len() {
+        pass(sink, room, first)?;
+        return pass(sink, room, second);
+    }
+    room.extend_from_slice(first).unwrap();
+    room.extend_from_slice(second).unwrap();
     Ok(())
 }
 

@@ -15,10 +15,11 @@ returns-in-Some c =
     let h = subst (λ (y : List ℕ × List ℕ). AreInPlace y.0 y.1 c.self.inside.workers) (λ i. (sym value i, sym c.deref.ensures i)) c.self.invariant.1 in
     let lt : c.args.from < length banks = omega (arith, c.requires, length_banks desks banks here, ap length c.self.view_is, c.if-from-banks.false) in
     let f = c.in-Some.ensures.first in
-    let next = next_place banks set c.args.called.now c.self.inside.workers c.args.from c.in-Some.bank.0 h lt f.0 f.1 c.in-Some.ensures.none_before in
+    let next = next_place banks set c.args.called.now c.self.inside.workers c.args.from c.in-Some.bank.0 h lt f.0 f.1 f.2 c.in-Some.ensures.none_before in
     rw (← c.self.view_is) (record {
       ahead = next.0;
       none_before = λ k ge less l. rw (← bank_at desks banks k here l) (next.1 k ge less);
+      called_there = λ l. rw (← bank_at desks banks _ here l) next.2;
     })
 
 pub returns-in-None-clause-none_before : goal.returns-in-None-clause-none_before
