@@ -1,4 +1,5 @@
-use Rattle.std.proofs.lemmas.Result.{on_ok_weaker}
+use Rattle.std.proofs.Common.{◌≡◌, ◌++◌, [], ap, sym, ◌∙◌}
+use Rattle.std.specs.Option.{option_map_or}
 use Rattle.clr_net.specs.Net.{name_of}
 use Rattle.clear_report.specs.Defaults.{standing_line}
 use Rattle.clear_report.proofs.Lines.{line_at}
@@ -9,6 +10,7 @@ pub returns : goal.returns
 returns c =
     let t = c.args.self.now in
     let i = c.args.bank.0 in
-    on_ok_weaker c.push_standing.result
-    (line_at (standing_line t.outside (name_of c.args.net.now i)) _ _ t.all.now i past_end
-    c.requires.over c.requires.bank) (rw c.name.ensures at c.push_standing.ensures)
+    let name : c.bank.result.now.name ≡ name_of c.args.net.now i = ap (λ o. option_map_or (λ b. b.name) o []) (sym c.bank.ensures) in
+    line_at (standing_line t.outside (name_of c.args.net.now i)) _ _ t.all.now i past_end c.requires.over c.requires.bank
+    (c.in_ok-extend_from_slice.ensures.items
+    ∙ ap (λ l. c.args.text.now.items ++ l) (c.bytes.ensures ∙ rw name at c.lay_out.ensures))
