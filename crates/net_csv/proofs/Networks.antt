@@ -1,5 +1,5 @@
 -- What every network that is read has: what the bank or the debt of each row keeps.
-use Rattle.std.proofs.Common.{◌≡◌, ◌<◌, ◌≤◌, ℕ, List, [], ◌∷◌, length, Ok, sum_by, subst}
+use Rattle.std.proofs.Common.{◌≡◌, ◌<◌, ◌≤◌, ℕ, List, [], ◌∷◌, length, Ok, subst}
 use Rattle.std.proofs.Common.{ltb-true, arith}
 use Rattle.std.proofs.lemmas.Bool.{le-leb, leb-true}
 use Rattle.csv.specs.Reading.{records, default_config, strip_bom}

@@ -4,7 +4,7 @@ ghost use Rattle.rule_class.specs.ClassSet.{IsClassSet};
 ghost use Rattle.rule_level.specs.Levels.{at_level, awards_above, level_awards, step_at};
 ghost use Rattle.rule_level.specs.declared.TheConstants.{MAX_LEVEL};
 ghost use Rattle.rule_unit.specs.declared.TheConstants.{MAX_CLAIM};
-ghost use Rattle.std.specs.Prelude.{◌≡◌, ◌+◌, ◌<◌, ◌≤◌, All, length, min, sum};
+ghost use Rattle.std.specs.Prelude.{◌≡◌, ◌+◌, ◌<◌, ◌≤◌, All, length, sum};
 
 use crate::MAX_LEVEL;
 use clr_net::RuleKind;
@@ -35,19 +35,6 @@ fn step_of(kind: RuleKind, level: u64, claim: u64) -> u64
     ensures small { at_level kind level claim + result ≤ claim }
 {
     award_at(kind, level + 1, claim) - award_at(kind, level, claim)
-}
-
-// What a debt gets of the next level, of which so many units are left.
-fn more_of(kind: RuleKind, level: u64, claim: u64, left: u64) -> u64
-    requires level { level < MAX_LEVEL }
-    requires claim { claim ≤ MAX_CLAIM }
-    ensures more { result ≡ min left (step_at kind level claim) }
-    ensures small { at_level kind level claim + result ≤ claim }
-{
-    if left == 0 {
-        return 0;
-    }
-    left.min(step_of(kind, level, claim))
 }
 
 // What these claims get together at a level.
@@ -84,12 +71,20 @@ pub fn set_awards(
         (awards_above kind level above (class_claims class claims.now classes.now))
         into.old into.new }
 {
+    // Only the first debts get a unit of the next level.
     let mut left = above;
-    for debt in 0..claims.len() {
-        if classes[debt] == class {
-            let more = more_of(kind, level, claims[debt], left);
-            into[debt] = award_at(kind, level, claims[debt]) + more;
+    let mut first = 0;
+    while left > 0 && first < claims.len() {
+        if classes[first] == class {
+            let more = left.min(step_of(kind, level, claims[first]));
+            into[first] = award_at(kind, level, claims[first]) + more;
             left -= more;
+        }
+        first += 1;
+    }
+    for debt in first..claims.len() {
+        if classes[debt] == class {
+            into[debt] = award_at(kind, level, claims[debt]);
         }
     }
 }
