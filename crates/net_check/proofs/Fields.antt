@@ -1,11 +1,11 @@
 -- Steps of reading one field: a byte trimmed, a digit read.
-use Rattle.std.proofs.Common.{◌≡◌, ℕ, ◌+◌, ◌-◌, ◌*◌, ◌^◌, ◌<◌, ◌≤◌, ◌==◌, true, false, cond, List, [], ◌∷◌, ◌++◌, length, reverse, get_or, take, drop, Some, refl, sym, ap, ◌∙◌, arith, add-one}
+use Rattle.std.proofs.Common.{◌≡◌, ℕ, ◌+◌, ◌-◌, ◌*◌, ◌^◌, ◌<◌, ◌≤◌, true, false, cond, List, [], ◌∷◌, ◌++◌, length, reverse, get_or, take, drop, Some, refl, sym, ap, ◌∙◌, arith, add-one}
 use Rattle.std.specs.List.{list_all}
 use Rattle.std.specs.Char.{is_ascii_digit}
-use Rattle.std.proofs.Math.Nat.{pow-suc}
+use Rattle.std.proofs.Math.Nat.{pow-le-pow_right, pow-suc}
 use Rattle.std.proofs.lemmas.Bool.{le-leb}
-use Rattle.std.proofs.lemmas.Bool.Decides.{nat_tests}
-use Rattle.std.proofs.lemmas.List.{at_drop_more, at_drop_all, take_all, reverse-append, reverse-reverse, nil_from_length}
+use Rattle.std.proofs.lemmas.List.{at_drop_more, at_drop_all, length_push, take_all, reverse-append, reverse-reverse, nil_from_length}
+use Rattle.std.proofs.lemmas.List.Folds.{list_all-append}
 use Rattle.net_check.specs.Field.{is_space_or_tab, trimmed_start, number_after, number_in}
 use Rattle.net_check.specs.declared.TheConstants.{MAX_DIGITS}
 
@@ -52,12 +52,29 @@ number_after_more field i n h = at_drop_more (number_after n) field i 0 h
 pub number_below_more : (i n d : ℕ) → n < 10 ^ i → d ≤ 9 → 10 * n + d < 10 ^ (i + 1)
 number_below_more i n d small digit = rw (add-one, pow-suc) (omega arith)
 
--- a field of digits alone, all of which are read
-pub number_in-digits : (field : List ℕ) (i n : ℕ) → (length field == 0) ≡ false → length field ≤ MAX_DIGITS → length field ≤ i
-    → list_all is_ascii_digit (take i field) ≡ true → number_after n (drop i field) ≡ number_after 0 field → number_in field ≡ Some n
+-- of less than twenty digits the number and ten times the number are below 2 ^ 64
+pub number_fits : (i n : ℕ) → n < 10 ^ i → i < 19 → 10 * n + 9 < 18446744073709551616
+number_fits i n small few =
+    let most : 10 ^ i ≤ 10 ^ 18 = pow-le-pow_right {n = 10} (omega arith) {i = i} {j = 18} (omega (arith, few)) in
+    omega (arith, small, most)
+
+-- the number of some digits and one more
+number_after-push : (n : ℕ) (digits : List ℕ) (last : ℕ) → number_after n (digits ++ last ∷ []) ≡ 10 * number_after n digits + (last - 48)
 unfolding number_after
-number_in-digits field i n filled high all_read digits e =
-    let low : 1 ≤ length field = grind (arith, nat_tests) in
-    let spelled : n ≡ number_after 0 field = sym (at_drop_all (number_after n) field i all_read) ∙ e in
-    let all_digits : list_all is_ascii_digit field ≡ true = ap (list_all is_ascii_digit) (sym (take_all i field all_read)) ∙ digits in
-    rw (le-leb 1 (length field) low, le-leb (length field) MAX_DIGITS high, all_digits) (ap Some (sym spelled))
+number_after-push n [] last = refl
+number_after-push n (digit ∷ digits) last = number_after-push (10 * n + (digit - 48)) digits last
+
+-- a field of digits alone, of which all but the last are read
+pub number_in-digits : (field front : List ℕ) (last i n : ℕ) → field ≡ front ++ last ∷ [] → length front < MAX_DIGITS → length front ≤ i
+    → list_all is_ascii_digit (take i front) ≡ true → number_after n (drop i front) ≡ number_after 0 front → is_ascii_digit last ≡ true
+    → number_in field ≡ Some (10 * n + (last - 48))
+unfolding number_after
+number_in-digits field front last i n are few all_read digits e digit =
+    let many : length field ≡ length front + 1 = ap length are ∙ length_push front last in
+    let spelled : n ≡ number_after 0 front = sym (at_drop_all (number_after n) front i all_read) ∙ e in
+    let firsts : list_all is_ascii_digit front ≡ true = ap (list_all is_ascii_digit) (sym (take_all i front all_read)) ∙ digits in
+    let all_digits : list_all is_ascii_digit field ≡ true =
+    ap (list_all is_ascii_digit) are ∙ list_all-append is_ascii_digit front (last ∷ []) ∙ rw (firsts, digit) refl in
+    let number : number_after 0 field ≡ 10 * n + (last - 48) =
+    ap (number_after 0) are ∙ number_after-push 0 front last ∙ ap (λ m. 10 * m + (last - 48)) (sym spelled) in
+    rw (le-leb 1 (length field) (omega (arith, many)), le-leb (length field) MAX_DIGITS (omega (arith, many, few)), all_digits) (ap Some number)

@@ -50,17 +50,24 @@ fn is_space_or_tab(byte: u8) -> bool
 pub fn number(field: &[u8]) -> Option<u128>
     ensures { result ≡ number_in field.now }
 {
-    if field.is_empty() || field.len() > MAX_DIGITS {
+    let Some((last, front)) = field.split_last() else {
+        return None;
+    };
+    if front.len() >= MAX_DIGITS {
         return None;
     }
+    // All digits but the last are counted in 64 bits, which is quicker.
     let mut number = 0;
-    for digit in field {
+    for digit in front {
         if !digit.is_ascii_digit() {
             return None;
         }
-        number = 10 * number + u128::from(*digit - b'0');
+        number = 10 * number + u64::from(*digit - b'0');
     }
-    Some(number)
+    if !last.is_ascii_digit() {
+        return None;
+    }
+    Some(10 * u128::from(number) + u128::from(*last - b'0'))
 }
 
 /// The number in a field, if it is at most the limit: `Number` where the field is no number, and

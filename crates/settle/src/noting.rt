@@ -56,6 +56,9 @@ pub(crate) fn add_waiting(
         (raises_of_all waiting.old.items)) }
     ensures none_waits { OnOk result (waiting.new.items ≡ []) }
 {
+    if waiting.is_empty() {
+        return Ok(());
+    }
     let from = journal.as_slice().len();
     let parts = mem::replace(waiting, Vec::new(alloc));
     let workers = parts.len();

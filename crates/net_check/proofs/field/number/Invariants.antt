@@ -6,7 +6,7 @@ use Rattle.net_check.proofs.field.number.Given as goal
 
 abbrev pub invariant-loop-digit : goal.invariant-loop-digit
 invariant-loop-digit l = record {
-  spelled : number_after l.number (drop l.digit-index l.field) ≡ number_after 0 l.field;
-  digits : list_all is_ascii_digit (take l.digit-index l.field) ≡ true;
+  spelled : number_after l.number (drop l.digit-index l.front) ≡ number_after 0 l.front;
+  digits : list_all is_ascii_digit (take l.digit-index l.front) ≡ true;
   small : l.number < 10 ^ l.digit-index;
 }
