@@ -1,8 +1,8 @@
 -- A network with other cash at each of its banks. Such cash is a function of a bank's number.
 use Rattle.std.specs.Prelude.{◌≡◌, ℕ, zero, suc, ◌+◌, ◌^◌, ◌<◌, ◌≤◌, nat_lt, cond, min, List, []}
-use Rattle.std.specs.Prelude.{◌∷◌, length, slice_index_or}
+use Rattle.std.specs.Prelude.{◌∷◌, length, slice_index, slice_index_or}
 use Rattle.clr_net.specs.declared.bank.Bank.{Bank}
-use Rattle.clr_net.specs.Net.{Net, of_cash}
+use Rattle.clr_net.specs.Net.{Net, cash_of, of_cash}
 use Rattle.clr_net.specs.declared.TheConstants.{MAX_CASH}
 
 -- banks, of which the first has the number n, with other cash
@@ -13,6 +13,11 @@ with_cashes_from cash n (b ∷ banks) = of_cash (cash n) b ∷ with_cashes_from 
 -- the network with other cash
 abbrev pub with_cashes : Net → (ℕ → ℕ) → Net
 with_cashes net cash = record net { banks = with_cashes_from cash 0 net.banks }
+
+-- these amounts are the cash of each bank of a network
+pub record IsCashOf (net : Net) (cash : List ℕ) : Type 0 where
+  pub for_each_bank : length cash ≡ length net.banks
+  pub each : (i : ℕ) → i < length net.banks → slice_index cash i ≡ cash_of net i
 
 -- the cash of each bank, by shares of many networks from one number up to below another: no bank
 -- has less by a share within another

@@ -6,7 +6,7 @@ use Rattle.clear_core.specs.Buffers.{HasRoom}
 use Rattle.clear_core.specs.Clearing.{least}
 use Rattle.clear_core.specs.Sums.{HaveSums}
 use Rattle.cascade.specs.MoreCash.{IsOfOtherCash}
-use Rattle.descent.specs.Cashes.{network_at, with_cashes}
+use Rattle.descent.specs.Cashes.{IsCashOf, network_at, with_cashes}
 use Rattle.descent.specs.declared.halves.Descent.{Descent}
 use Rattle.descent.specs.declared.halves.Step.{Step}
 use Rattle.descent.specs.declared.share.Share.{Share}
@@ -18,17 +18,20 @@ pub record IsPartOf (part whole : Share) : Type 0 where
   pub high : part.high ≤ whole.high
 
 -- a step holds the least payments where each bank has the least cash that it has in a share, with
--- their sums
+-- their sums; and that cash, where there are parts of the share to go on for
 pub record IsStepOf (net : Net) (size : ℕ) (floor : ℕ → ℕ → ℕ → ℕ) (s : Step) : Type 0 where
   pub some : s.share.low < s.share.high
   pub share : s.share.high ≤ size
   pub paid : s.payments.paid ≡ least (with_cashes net (floor s.share.low s.share.high))
   pub sums : HaveSums net s.payments
+  pub cash : s.share.low + 1 < s.share.high
+      → IsCashOf (with_cashes net (floor s.share.low s.share.high)) s.cash.items
 
--- a descent through so many networks: its copy differs in cash alone, and each of its steps is one
+-- a descent through so many networks: its copy differs in cash alone, and each of its steps is one,
+-- whose share has parts
 pub record IsDescentOf (net : Net) (size : ℕ) (floor : ℕ → ℕ → ℕ → ℕ) (d : Descent) : Type 0 where
   pub alike : IsOfOtherCash net d.laid
-  pub steps : All (IsStepOf net size floor) d.steps.items
+  pub steps : All (λ s. IsStepOf net size floor s × (s.share.low + 1 < s.share.high)) d.steps.items
   pub for_each_bank : length d.marks.items ≡ length net.banks
   pub room : HasRoom net d.scratch
 

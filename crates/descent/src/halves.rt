@@ -1,14 +1,15 @@
 //! A descent: the least payments of many networks, by halves of them.
 ghost use Rattle.cascade.specs.Standings.{standings};
 ghost use Rattle.clear_core.specs.Clearing.{least};
-ghost use Rattle.descent.specs.Cashes.{AreFloors, network_at};
+ghost use Rattle.descent.specs.Cashes.{AreFloors, network_at, with_cashes};
 ghost use Rattle.descent.specs.Halves.{HasEnough, IsDescentBy, IsDescentOf, IsPartOf, IsReady};
 ghost use Rattle.descent.specs.Halves.{IsStepBy};
-ghost use Rattle.std.specs.Prelude.{◌≡◌, ◌<◌, ◌≤◌, ℕ, IfOk, OnOk};
+ghost use Rattle.std.specs.Prelude.{◌≡◌, ◌+◌, ◌<◌, ◌≤◌, ℕ, IfOk, OnOk};
 
 use crate::floors::Floors;
-use crate::laying::{lay_in, widest};
+use crate::laying::{cash_in, lay_in, widest};
 use crate::marks::mark_richer;
+use crate::pace::Pace;
 use crate::share::Share;
 use cascade::{Standing, defaults_by};
 use clear_core::{Payments, Scratch};
@@ -33,6 +34,9 @@ pub struct Descent {
 struct Step {
     share: Share,
     payments: Payments,
+    // That cash of each bank, where the share has more than one network.
+    cash: Vec<u64>,
+    pace: Pace,
 }
 
 impl Descent {
@@ -62,7 +66,10 @@ impl Descent {
     /// Any number may be asked for after any other. In order each clearing goes on from one with
     /// the least cash of twice as many networks, and first visits those banks alone that have more.
     /// A clearing begins from nothing paid only where the least cash of more networks would not
-    /// come to two thirds of what its own network has: payments rise long where cash is scarce.
+    /// come to two thirds of what its own network has: payments rise long where cash is scarce. If one
+    /// sweep clears there, and a step leaves hardly a bank with what it had, each network goes on from
+    /// that step at once.
+    ///
     /// Costs a look at each bank and at all that is owed to each bank in default, and for each step
     /// a list over the debts and one over the banks, which are copied.
     pub fn standings_at<F: Floors>(
@@ -84,17 +91,16 @@ impl Descent {
     {
         let mut step = self.nearest(alloc, net, floors, number)?;
         while step.share.high - step.share.low > 1 {
-            let half = step.share.half_with(number);
-            let next = self.gone_on(alloc, net, floors, &step, half)?;
+            let part = step.share.part_with(number, step.pace.alone);
+            let next = self.gone_on(alloc, net, floors, &step, part)?;
             self.steps.push(step)?;
             step = next;
         }
-        lay_in(net, floors, step.share, &mut self.laid);
         defaults_by(alloc, &self.laid, &step.payments)
     }
 
     // The last step whose share has the number, taken out, without those after it; one that begins
-    // at the number where none has.
+    // at the number where none has. A share of one network is laid in.
     fn nearest<F: Floors>(
         &mut self,
         alloc: Global,
@@ -108,6 +114,8 @@ impl Descent {
         ensures step { IfOk result (IsStepBy F.size F.floors net.now floors.now) }
         ensures low { IfOk result (λ step. step.share.low ≤ number) }
         ensures high { IfOk result (λ step. number < step.share.high) }
+        ensures laid { IfOk result (λ step. step.share.high ≤ step.share.low + 1 → self.new.laid
+            ≡ with_cashes net.now (F.floors floors.now net.now step.share.low step.share.high)) }
     {
         while let Some(step) = self.steps.pop() {
             if step.share.low <= number && number < step.share.high {
@@ -134,12 +142,19 @@ impl Descent {
         ensures high { IfOk result (λ step. number < step.share.high) }
         ensures enough { IfOk result (λ step.
             HasEnough net.now (F.floors floors.now net.now) number step.share.high) }
+        ensures laid { IfOk result (λ step. self.new.laid
+            ≡ with_cashes net.now (F.floors floors.now net.now step.share.low step.share.high)) }
     {
         let high = widest(net, floors, number, &mut self.laid);
         let share = Share { low: number, high };
         lay_in(net, floors, share, &mut self.laid);
-        let payments = least_payments(alloc, &self.laid)?;
-        Ok(Step { share, payments })
+        let (payments, sweeps) = least_payments(alloc, &self.laid)?;
+        Ok(Step {
+            share,
+            payments,
+            cash: cash_in(alloc, &self.laid, share)?,
+            pace: Pace::begun(net.banks(), sweeps),
+        })
     }
 
     // The step of a part of the share of a step: its clearing goes on.
@@ -155,19 +170,16 @@ impl Descent {
         requires floors { AreFloors (F.floors floors.now net.now) }
         requires step { IsStepBy F.size F.floors net.now floors.now step.now }
         requires part { IsPartOf part step.now.share }
+        requires wide { step.now.share.low + 1 < step.now.share.high }
         ensures descent { IsDescentBy F.size F.floors net.now floors.now self.new }
         ensures step { IfOk result (IsStepBy F.size F.floors net.now floors.now) }
         ensures part { IfOk result (λ next. next.share ≡ part) }
+        ensures laid { OnOk result (self.new.laid
+            ≡ with_cashes net.now (F.floors floors.now net.now part.low part.high)) }
     {
         let mut payments = step.payments.copy(alloc)?;
         lay_in(net, floors, part, &mut self.laid);
-        mark_richer(
-            net,
-            floors,
-            step.share,
-            &self.laid,
-            self.marks.as_mut_slice(),
-        );
+        let richer = mark_richer(step.cash.as_slice(), &self.laid, self.marks.as_mut_slice());
         least_again(
             &self.laid,
             &mut payments,
@@ -177,6 +189,8 @@ impl Descent {
         Ok(Step {
             share: part,
             payments,
+            cash: cash_in(alloc, &self.laid, part)?,
+            pace: step.pace.gone_on(richer),
         })
     }
 }

@@ -1,13 +1,14 @@
 //! The least cash of a share, laid into a copy of the network, and the widest share that has enough.
 ghost use Rattle.cascade.specs.MoreCash.{IsOfOtherCash};
 ghost use Rattle.clr_net.specs.Limits.{IsNetwork};
-ghost use Rattle.descent.specs.Cashes.{with_cashes};
+ghost use Rattle.descent.specs.Cashes.{IsCashOf, with_cashes};
 ghost use Rattle.descent.specs.Halves.{HasEnough, twice_as_wide};
-ghost use Rattle.std.specs.Prelude.{◌≡◌, ◌<◌, ◌≤◌};
+ghost use Rattle.std.specs.Prelude.{◌≡◌, ◌+◌, ◌<◌, ◌≤◌, IfOk};
 
 use crate::floors::Floors;
 use crate::share::Share;
-use clr_net::{BankId, Network};
+use clr_net::{BankId, Mem, Network};
+use std::alloc::Global;
 
 // Where the widest share that begins at a number and has cash enough ends. It is made wider twofold
 // at a time. The cash is laid into a copy of the network, which has the sum of it.
@@ -64,4 +65,27 @@ pub(crate) fn lay_in<F: Floors>(net: &Network, floors: &F, share: Share, laid: &
         laid.set_cash(bank, floors.floor(net, share.low, share.high, bank));
     }
     prove!(laid.banks() == net.banks());
+}
+
+// The cash of each bank of a copy in which that of a share is laid. None is listed for a share of one
+// network, from which no clearing goes on.
+pub(crate) fn cash_in(alloc: Global, laid: &Network, share: Share) -> Result<Vec<u64>, Mem>
+    requires { share.low < share.high }
+    ensures { IfOk result (λ cash. share.low + 1 < share.high → IsCashOf laid.now cash.items) }
+{
+    if share.high - share.low == 1 {
+        return Ok(Vec::new(alloc));
+    }
+    cash_of_all(alloc, laid)
+}
+
+// The cash of each bank, in units.
+fn cash_of_all(alloc: Global, net: &Network) -> Result<Vec<u64>, Mem>
+    ensures { IfOk result (λ cash. IsCashOf net.now cash.items) }
+{
+    let mut cash = Vec::with_capacity(alloc, net.banks() as usize)?;
+    for number in 0..net.banks() {
+        cash.push(net.bank(BankId(number)).cash)?;
+    }
+    Ok(cash)
 }

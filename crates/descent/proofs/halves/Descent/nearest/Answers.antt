@@ -1,5 +1,5 @@
 -- A step that is taken out is one of the descent's, and those that are left are too.
-use Rattle.std.proofs.Common.{◌≡◌, ℕ, ◌++◌, List, Option, Some, IfSome, subst}
+use Rattle.std.proofs.Common.{◌≡◌, ℕ, ◌+◌, ◌<◌, ◌++◌, List, Option, Some, IfSome, subst, arith}
 use Rattle.std.specs.Global.{Vec}
 use Rattle.std.specs.Option.{option_to_list}
 use Rattle.std.proofs.lemmas.List.Elements.{All-pop}
@@ -9,13 +9,17 @@ use Rattle.descent.specs.declared.halves.Descent.{Descent}
 use Rattle.descent.specs.declared.halves.Step.{Step}
 use Rattle.descent.proofs.halves.Descent.nearest.Goals as goal
 
+-- a step whose share has parts
+abbrev IsWideStepOf : Net → ℕ → (ℕ → ℕ → ℕ → ℕ) → Step → Type 0
+IsWideStepOf net size floor s = IsStepOf net size floor s × (s.share.low + 1 < s.share.high)
+
 -- what is left is a descent
 left : {net : Net} {size : ℕ} {floor : ℕ → ℕ → ℕ → ℕ} {d : Descent} (steps : Vec Step) (r : Option Step)
     → IsDescentOf net size floor d → d.steps.items ≡ steps.items ++ option_to_list r
     → IsDescentOf net size floor (record d { steps = steps })
 left {net = net} {size = size} {floor = floor} {d = d} steps r old popped = record {
   alike = old.alike;
-  steps = (All-pop (IsStepOf net size floor) d.steps.items steps.items r popped old.steps).0;
+  steps = (All-pop (IsWideStepOf net size floor) d.steps.items steps.items r popped old.steps).0;
   for_each_bank = old.for_each_bank;
   room = old.room;
 }
@@ -23,10 +27,10 @@ left {net = net} {size = size} {floor = floor} {d = d} steps r old popped = reco
 -- and what is taken out is a step
 taken : {net : Net} {size : ℕ} {floor : ℕ → ℕ → ℕ → ℕ} {d : Descent} (ids : List Step) (r : Option Step) (s : Step)
     → IsDescentOf net size floor d → d.steps.items ≡ ids ++ option_to_list r → r ≡ Some s
-    → IsStepOf net size floor s
+    → IsWideStepOf net size floor s
 taken {net = net} {size = size} {floor = floor} {d = d} ids r s old popped is =
-    subst (λ o. IfSome o (IsStepOf net size floor)) is
-    (All-pop (IsStepOf net size floor) d.steps.items ids r popped old.steps).1
+    subst (λ o. IfSome o (IsWideStepOf net size floor)) is
+    (All-pop (IsWideStepOf net size floor) d.steps.items ids r popped old.steps).1
 
 pub loop-step-init : goal.loop-step-init
 loop-step-init g c = c.requires.ready.descent
@@ -37,8 +41,13 @@ returns-then-number-step-clause-descent g c =
 
 pub returns-then-number-step-clause-step : goal.returns-then-number-step-clause-step
 returns-then-number-step-clause-step g c =
-    taken c.pop.new.self.items c.pop.result c.in-Some.step c.loop-step.invariant c.pop.ensures.items
-    c.in-Some.is
+    (taken c.pop.new.self.items c.pop.result c.in-Some.step c.loop-step.invariant c.pop.ensures.items
+    c.in-Some.is).0
+
+pub returns-then-number-step-clause-laid : goal.returns-then-number-step-clause-laid
+returns-then-number-step-clause-laid g c alone =
+    let wide = (taken c.pop.new.self.items c.pop.result c.in-Some.step c.loop-step.invariant c.pop.ensures.items c.in-Some.is).1 in
+    absurd (omega (arith, wide, alone))
 
 pub loop-step-preserved : goal.loop-step-preserved
 loop-step-preserved g c = left c.pop.new.self c.pop.result c.loop-step.invariant c.pop.ensures.items
