@@ -1,6 +1,9 @@
 ghost use Rattle.clr_net.specs.Name.{is_name, may_stand_in_name as may_stand, is_control as is_control_character};
 ghost use Rattle.clr_net.specs.NameFault.{name_fault_text};
-ghost use Rattle.std.specs.Prelude.{◌≡◌, ◌↔◌, false, IfOk, IsTrue, IsErrOf, Some};
+ghost use Rattle.std.specs.Bool.{OnTrue};
+ghost use Rattle.std.specs.List.{list_all};
+ghost use Rattle.std.specs.Str.{IsAscii};
+ghost use Rattle.std.specs.Prelude.{◌≡◌, ◌↔◌, false, true, IfOk, IsTrue, IsErrOf, Some};
 
 use crate::{MAX_NAME_BYTES, Mem};
 use std::alloc::Global;
@@ -71,6 +74,9 @@ impl Name {
         if text.is_empty() || text.len() > MAX_NAME_BYTES {
             return false;
         }
+        if is_plain(text) {
+            return true;
+        }
         match std::str::from_utf8(text) {
             Ok(text) => text.chars().all(may_stand_in_name),
             Err(_) => false,
@@ -92,6 +98,19 @@ impl Name {
     {
         self.text.as_slice()
     }
+}
+
+// Whether these bytes are ASCII characters that a name may have, as those of most names are: this
+// costs less than to read them as UTF-8.
+fn is_plain(text: &[u8]) -> bool
+    ensures { OnTrue result (IsAscii text.now × (list_all may_stand text.now ≡ true)) }
+{
+    for byte in text {
+        if *byte < 0x20 || *byte >= 0x7F || *byte == b',' || *byte == b'"' {
+            return false;
+        }
+    }
+    true
 }
 
 // Whether a name may have this character.

@@ -3,7 +3,7 @@ ghost use Rattle.cascade.specs.Standings.{standings};
 ghost use Rattle.clear_core.specs.Clearing.{least};
 ghost use Rattle.descent.specs.Cashes.{AreFloors, network_at, with_cashes};
 ghost use Rattle.descent.specs.Halves.{HasEnough, IsDescentBy, IsDescentOf, IsPartOf, IsReady};
-ghost use Rattle.descent.specs.Halves.{IsStepBy};
+ghost use Rattle.descent.specs.Halves.{IsStepBy, twice_as_wide};
 ghost use Rattle.std.specs.Prelude.{◌≡◌, ◌+◌, ◌<◌, ◌≤◌, ℕ, IfOk, OnOk};
 
 use crate::floors::Floors;
@@ -142,6 +142,9 @@ impl Descent {
         ensures high { IfOk result (λ step. number < step.share.high) }
         ensures enough { IfOk result (λ step.
             HasEnough net.now (F.floors floors.now net.now) number step.share.high) }
+        ensures widest { IfOk result (λ step. step.share.high < F.size floors.now net.now
+            → HasEnough net.now (F.floors floors.now net.now) number
+            (twice_as_wide number step.share.high (F.size floors.now net.now)) → ⊥) }
         ensures laid { IfOk result (λ step. self.new.laid
             ≡ with_cashes net.now (F.floors floors.now net.now step.share.low step.share.high)) }
     {

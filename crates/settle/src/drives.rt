@@ -21,7 +21,8 @@ use std::alloc::Global;
 use std::mem;
 use std::thread::Threads;
 
-// The rounds themselves, by workers at these offices: by threads where they pay.
+// The rounds themselves, by workers at these offices: by threads where they pay, which they never do
+// for one worker.
 pub(crate) fn drive_on<R: Threads + Sync, G: Gate + Sync>(
     rt: &R,
     run: &Run<'_, G>,
@@ -38,6 +39,9 @@ pub(crate) fn drive_on<R: Threads + Sync, G: Gate + Sync>(
     ensures driven { IfOk result (IsDriven run.now.net.now past.now run.now.engine.now.plan
         master.old.shows master.new.shows) }
 {
+    if run.engine.plan.workers == 1 {
+        return drive_in_turn(run, past, master, offices);
+    }
     let held = mem::replace(offices, Vec::new(run.engine.alloc));
     let mut state = RunState::of(run.engine.alloc, past, held)?;
     prove!(master.clock() <= MAX_OWED);
