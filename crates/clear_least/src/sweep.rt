@@ -17,15 +17,13 @@ pub fn central(alloc: Global, net: &Network) -> Result<Amounts, Mem>
     ensures payments { IfOk result (λ paid. paid ≡ least net.now) }
     ensures least { IfOk result (λ paid. IsLeast net.now paid) }
 {
-    let (payments, _) = least_payments(alloc, net)?;
-    Ok(payments.paid)
+    Ok(least_payments(alloc, net)?.paid)
 }
 
-/// The payments that [`central`] gives, with what each bank receives and pays by them; and how many
-/// sweeps raised a payment, of which nothing is promised.
-pub fn least_payments(alloc: Global, net: &Network) -> Result<(Payments, u64), Mem>
-    ensures payments { IfOk result (λ r. r.0.paid ≡ least net.now) }
-    ensures sums { IfOk result (λ r. HaveSums net.now r.0) }
+/// The payments that [`central`] gives, with what each bank receives and pays by them.
+pub fn least_payments(alloc: Global, net: &Network) -> Result<Payments, Mem>
+    ensures payments { IfOk result (λ payments. payments.paid ≡ least net.now) }
+    ensures sums { IfOk result (HaveSums net.now) }
 {
     let nothing = Payments::none(alloc, net)?;
     paid_up(alloc, net, &WithoutCosts, nothing)
@@ -52,34 +50,32 @@ pub fn least_by<S: Spending>(
 {
     prove!(paid.as_slice().len() == net.debts() as usize);
     let from = Payments::of(alloc, net, paid)?;
-    let (payments, _) = paid_up(alloc, net, spending, from)?;
-    Ok(payments.paid)
+    Ok(paid_up(alloc, net, spending, from)?.paid)
 }
 
-// The same, from payments that have their sums. Answers how many sweeps raised a payment, too.
+// The same, from payments that have their sums.
 fn paid_up<S: Spending>(
     alloc: Global,
     net: &Network,
     spending: &S,
     mut payments: Payments,
-) -> Result<(Payments, u64), Mem>
+) -> Result<Payments, Mem>
     requires never_falls { NeverFalls (S.spends spending.now net.now) }
     requires way { IsOnWayBy net.now (S.spends spending.now net.now) payments.paid }
     requires sums { HaveSums net.now payments }
-    ensures payments { IfOk result
-        (λ r. r.0.paid ≡ least_paid net.now (S.spends spending.now net.now)) }
-    ensures sums { IfOk result (λ r. HaveSums net.now r.0) }
+    ensures payments { IfOk result (λ all. all.paid ≡ least_paid net.now (S.spends spending.now net.now)) }
+    ensures sums { IfOk result (HaveSums net.now) }
 {
     let mut marks = vec![in alloc; true; net.banks() as usize]?;
     let mut scratch = Scratch::of(alloc, net)?;
-    let sweeps = repeat(
+    repeat(
         net,
         spending,
         &mut payments,
         marks.as_mut_slice(),
         &mut scratch,
     );
-    Ok((payments, sweeps))
+    Ok(payments)
 }
 
 /// Makes payments that are on the way to the least that clear those, where it is known which banks
@@ -104,15 +100,14 @@ pub fn least_again(
     repeat(net, &WithoutCosts, payments, marks, scratch);
 }
 
-// Sweeps over the banks up to the first sweep in which none pays more. Answers how many came before
-// it.
+// Sweeps over the banks up to the first sweep in which none pays more.
 fn repeat<S: Spending>(
     net: &Network,
     spending: &S,
     payments: &mut Payments,
     marks: &mut [bool],
     scratch: &mut Scratch,
-) -> u64
+)
     requires network { IsNetwork net.now }
     requires swept { IsSwept net.now (S.spends spending.now net.now) payments.old.paid marks.old }
     requires sums { HaveSums net.now payments.old }
@@ -121,11 +116,7 @@ fn repeat<S: Spending>(
     ensures sums { HaveSums net.now payments.new }
     ensures room { scratch.new ≡ scratch.old }
 {
-    let mut sweeps: u64 = 0;
-    while sweep(net, spending, payments, marks, scratch) {
-        sweeps = sweeps.saturating_add(1);
-    }
-    sweeps
+    while sweep(net, spending, payments, marks, scratch) {}
 }
 
 // Each marked bank pays anew, one after another, and loses its mark; whoever it pays more is

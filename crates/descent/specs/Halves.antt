@@ -27,11 +27,15 @@ pub record IsStepOf (net : Net) (size : ℕ) (floor : ℕ → ℕ → ℕ → �
   pub cash : s.share.low + 1 < s.share.high
       → IsCashOf (with_cashes net (floor s.share.low s.share.high)) s.cash.items
 
+-- a step whose share has parts
+abbrev pub IsWideStepOf : Net → ℕ → (ℕ → ℕ → ℕ → ℕ) → Step → Type 0
+IsWideStepOf net size floor s = IsStepOf net size floor s × (s.share.low + 1 < s.share.high)
+
 -- a descent through so many networks: its copy differs in cash alone, and each of its steps is one,
 -- whose share has parts
 pub record IsDescentOf (net : Net) (size : ℕ) (floor : ℕ → ℕ → ℕ → ℕ) (d : Descent) : Type 0 where
   pub alike : IsOfOtherCash net d.laid
-  pub steps : All (λ s. IsStepOf net size floor s × (s.share.low + 1 < s.share.high)) d.steps.items
+  pub steps : All (IsWideStepOf net size floor) d.steps.items
   pub for_each_bank : length d.marks.items ≡ length net.banks
   pub room : HasRoom net d.scratch
 

@@ -9,7 +9,6 @@ ghost use Rattle.std.specs.Prelude.{◌≡◌, ◌+◌, ◌<◌, ◌≤◌, ℕ,
 use crate::floors::Floors;
 use crate::laying::{cash_in, lay_in, widest};
 use crate::marks::mark_richer;
-use crate::pace::Pace;
 use crate::share::Share;
 use cascade::{Standing, defaults_by};
 use clear_core::{Payments, Scratch};
@@ -36,7 +35,6 @@ struct Step {
     payments: Payments,
     // That cash of each bank, where the share has more than one network.
     cash: Vec<u64>,
-    pace: Pace,
 }
 
 impl Descent {
@@ -66,9 +64,7 @@ impl Descent {
     /// Any number may be asked for after any other. In order each clearing goes on from one with
     /// the least cash of twice as many networks, and first visits those banks alone that have more.
     /// A clearing begins from nothing paid only where the least cash of more networks would not
-    /// come to two thirds of what its own network has: payments rise long where cash is scarce. If one
-    /// sweep clears there, and a step leaves hardly a bank with what it had, each network goes on from
-    /// that step at once.
+    /// come to two thirds of what its own network has: payments rise long where cash is scarce.
     ///
     /// Costs a look at each bank and at all that is owed to each bank in default, and for each step
     /// a list over the debts and one over the banks, which are copied.
@@ -91,8 +87,8 @@ impl Descent {
     {
         let mut step = self.nearest(alloc, net, floors, number)?;
         while step.share.high - step.share.low > 1 {
-            let part = step.share.part_with(number, step.pace.alone);
-            let next = self.gone_on(alloc, net, floors, &step, part)?;
+            let half = step.share.half_with(number);
+            let next = self.gone_on(alloc, net, floors, &step, half)?;
             self.steps.push(step)?;
             step = next;
         }
@@ -151,12 +147,11 @@ impl Descent {
         let high = widest(net, floors, number, &mut self.laid);
         let share = Share { low: number, high };
         lay_in(net, floors, share, &mut self.laid);
-        let (payments, sweeps) = least_payments(alloc, &self.laid)?;
+        let payments = least_payments(alloc, &self.laid)?;
         Ok(Step {
             share,
             payments,
             cash: cash_in(alloc, &self.laid, share)?,
-            pace: Pace::begun(net.banks(), sweeps),
         })
     }
 
@@ -182,7 +177,7 @@ impl Descent {
     {
         let mut payments = step.payments.copy(alloc)?;
         lay_in(net, floors, part, &mut self.laid);
-        let richer = mark_richer(step.cash.as_slice(), &self.laid, self.marks.as_mut_slice());
+        mark_richer(step.cash.as_slice(), &self.laid, self.marks.as_mut_slice());
         least_again(
             &self.laid,
             &mut payments,
@@ -193,7 +188,6 @@ impl Descent {
             share: part,
             payments,
             cash: cash_in(alloc, &self.laid, part)?,
-            pace: step.pace.gone_on(richer),
         })
     }
 }

@@ -5,20 +5,15 @@ ghost use Rattle.std.specs.Prelude.{◌≡◌, ◌<◌, ℕ, false, length, slic
 
 use clr_net::{BankId, Network};
 
-// Marks the banks that have other cash in a copy than each had before, by this list. Answers how many
-// they are.
-pub(crate) fn mark_richer(before: &[u64], laid: &Network, marks: &mut [bool]) -> u32
+// Marks the banks that have other cash in a copy than each had before, by this list.
+pub(crate) fn mark_richer(before: &[u64], laid: &Network, marks: &mut [bool])
     requires before { length before.now ≡ length laid.now.banks }
     requires marks { length marks.old ≡ length laid.now.banks }
     ensures { (i : ℕ) → i < length laid.now.banks → OnFalse (slice_index_or marks.new i false)
         (slice_index before.now i ≡ cash_of laid.now i) }
 {
-    let mut richer = 0;
     for number in 0..laid.banks() {
         let place = number as usize;
-        let has_more = before[place] != laid.bank(BankId(number)).cash;
-        marks[place] = has_more;
-        richer += u32::from(has_more);
+        marks[place] = before[place] != laid.bank(BankId(number)).cash;
     }
-    richer
 }

@@ -32,23 +32,4 @@ impl Share {
             }
         }
     }
-
-    // Its part that has a number: the number alone, or its half that has it.
-    pub(crate) fn part_with(self, number: u32, alone: bool) -> Share
-        requires low { self.low ≤ number }
-        requires high { number < self.high }
-        requires parts { self.low + 1 < self.high }
-        ensures part { IsPartOf result self }
-        ensures low { result.low ≤ number }
-        ensures high { number < result.high }
-        ensures smaller { result.high + self.low < self.high + result.low }
-    {
-        if alone {
-            return Share {
-                low: number,
-                high: number + 1,
-            };
-        }
-        self.half_with(number)
-    }
 }

@@ -5,5 +5,5 @@ use Rattle.clear_least.proofs.sweep.central.Goals as goal
 
 pub returns-clause-least : goal.returns-clause-least
 returns-clause-least c =
-    subst (IsLeast c.args.net.now) (sym c.in_ok-payments.ensures.payments)
+    subst (IsLeast c.args.net.now) (sym c.in_ok-least_payments.ensures.payments)
     (least_rounds c.args.net.now)

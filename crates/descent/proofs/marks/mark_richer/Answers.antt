@@ -1,4 +1,3 @@
-use mir.Val.{bool_byte}
 use Rattle.std.proofs.Common.{◌≡◌, ◌≤◌, ◌==◌, ℕ, Bool, true, false, get_or, not, sym, subst, ◌∙◌, below_more, arith}
 use Rattle.std.proofs.lemmas.Bool.{OnFalse_from}
 use Rattle.std.proofs.lemmas.Bool.Decides.{nat_tests}
@@ -7,11 +6,6 @@ use Rattle.std.specs.Bool.{OnFalse}
 use Rattle.clr_net.specs.Net.{cash_of}
 use Rattle.cascade.proofs.CashAt.{cash_read}
 use Rattle.descent.proofs.marks.mark_richer.Goals as goal
-
--- a bank that has more is counted once
-once : (b : Bool) → bool_byte b ≤ 1
-once true = omega arith
-once false = omega arith
 
 pub loop-number-preserved : goal.loop-number-preserved
 loop-number-preserved c =
@@ -24,11 +18,8 @@ loop-number-preserved c =
     let b = not (had == units) in
     let same = λ (i : ℕ). get_or before i 0 ≡ cash_of laid i in
     let told : b ≡ false → had ≡ units = λ e. grind (arith, nat_tests) in
-    record {
-      told = below_more _ n
-          (λ i l. subst (λ (m : Bool). OnFalse m (same i))
-          (sym (get_or-set_other marks n i b false (λ e. omega arith))) (c.loop-number.invariant.told i l))
-          (subst (λ (m : Bool). OnFalse m (same n)) (sym (get_or-set_same marks n b false (omega arith)))
-          (OnFalse_from b _ (λ e. told e ∙ sym (cash_read laid n c.bank.result.now c.bank.ensures))));
-      few = omega (arith, c.loop-number.invariant.few, c.from-richer.ensures, once b);
-    }
+    below_more _ n
+    (λ i l. subst (λ (m : Bool). OnFalse m (same i))
+    (sym (get_or-set_other marks n i b false (λ e. omega arith))) (c.loop-number.invariant i l))
+    (subst (λ (m : Bool). OnFalse m (same n)) (sym (get_or-set_same marks n b false (omega arith)))
+    (OnFalse_from b _ (λ e. told e ∙ sym (cash_read laid n c.bank.result.now c.bank.ensures))))

@@ -9,8 +9,8 @@ use Rattle.descent.proofs.Cashes.{alike_with_cashes}
 use Rattle.descent.proofs.GoingOn.{same_in_part, swept_for_part}
 use Rattle.descent.proofs.halves.Descent.gone_on.Goals as goal
 
-pub mark_richer-richer-requires-clause-before : goal.mark_richer-richer-requires-clause-before
-mark_richer-richer-requires-clause-before g c =
+pub mark_richer-requires-clause-before : goal.mark_richer-requires-clause-before
+mark_richer-requires-clause-before g c =
     let net = c.args.net.now in
     let share = c.args.step.now.share in
     let cash = g.F.Floors.floors c.args.floors.now net share.low share.high in
@@ -23,10 +23,10 @@ least_again-requires-clause-swept g c =
     let net = c.args.net.now in
     let step = c.args.step.now in
     let floor = g.F.Floors.floors c.args.floors.now net in
-    let marks = c.mark_richer-richer.new.marks in
+    let marks = c.mark_richer.new.marks in
     let back : c.as_mut_slice-2.result.now ≡ marks =
     c.as_mut_slice-2.ensures.value
-    ∙ written_back c.args.self.now.marks.len c.mark_richer-richer.new.marks _ (omega arith) in
+    ∙ written_back c.args.self.now.marks.len c.mark_richer.new.marks _ (omega arith) in
     let paid : c.in_ok-payments.payments.paid ≡ least (with_cashes net (floor step.share.low step.share.high)) =
     c.in_ok-payments.ensures.paid ∙ c.requires.step.paid in
     rw (c.lay_in.ensures.laid, paid, back)
@@ -34,7 +34,7 @@ least_again-requires-clause-swept g c =
     c.requires.part.low c.requires.part.some c.requires.part.high
     marks (omega (arith, c.requires.ready.descent.for_each_bank))
     (same_in_part net floor step.share.low step.share.high c.args.part.low c.args.part.high step.cash.items c.lay_in.new.laid
-    marks c.lay_in.ensures.laid (c.requires.step.cash c.requires.wide) (rw c.as_slice.ensures.value at c.mark_richer-richer.ensures)))
+    marks c.lay_in.ensures.laid (c.requires.step.cash c.requires.wide) (rw c.as_slice.ensures.value at c.mark_richer.ensures)))
 
 pub least_again-requires-clause-room : goal.least_again-requires-clause-room
 least_again-requires-clause-room g c =

@@ -4,14 +4,10 @@ use Rattle.std.specs.Global.{Vec}
 use Rattle.std.specs.Option.{option_to_list}
 use Rattle.std.proofs.lemmas.List.Elements.{All-pop}
 use Rattle.clr_net.specs.Net.{Net}
-use Rattle.descent.specs.Halves.{IsDescentOf, IsStepOf}
+use Rattle.descent.specs.Halves.{IsDescentOf, IsWideStepOf}
 use Rattle.descent.specs.declared.halves.Descent.{Descent}
 use Rattle.descent.specs.declared.halves.Step.{Step}
 use Rattle.descent.proofs.halves.Descent.nearest.Goals as goal
-
--- a step whose share has parts
-abbrev IsWideStepOf : Net → ℕ → (ℕ → ℕ → ℕ → ℕ) → Step → Type 0
-IsWideStepOf net size floor s = IsStepOf net size floor s × (s.share.low + 1 < s.share.high)
 
 -- what is left is a descent
 left : {net : Net} {size : ℕ} {floor : ℕ → ℕ → ℕ → ℕ} {d : Descent} (steps : Vec Step) (r : Option Step)

@@ -7,7 +7,7 @@ use Rattle.clear_core.proofs.Least.{least_clears}
 use Rattle.cascade.specs.Standings.{standings}
 use Rattle.cascade.proofs.OtherCash.{sums_alike}
 use Rattle.descent.specs.Cashes.{network_at, with_cashes}
-use Rattle.descent.specs.Halves.{IsStepOf}
+use Rattle.descent.specs.Halves.{IsWideStepOf}
 use Rattle.descent.specs.declared.halves.Step.{Step}
 use Rattle.descent.specs.declared.share.Share.{Share}
 use Rattle.descent.proofs.halves.Descent.standings_at.Goals as goal
@@ -72,14 +72,14 @@ loop-step-preserved g c =
     record {
       descent = record {
         alike = before.alike;
-        steps = subst (All (λ s. IsStepOf net size floor s × (s.share.low + 1 < s.share.high))) (sym c.in_ok-push.ensures.items)
-            (All-push (λ (s : Step). IsStepOf net size floor s × (s.share.low + 1 < s.share.high)) c.gone_on.new.self.steps.items
+        steps = subst (All (IsWideStepOf net size floor)) (sym c.in_ok-push.ensures.items)
+            (All-push (IsWideStepOf net size floor) c.gone_on.new.self.steps.items
             c.loop-step.step before.steps (at.step, wide));
         for_each_bank = before.for_each_bank;
         room = before.room;
       };
       step = c.in_ok-next.ensures.step;
-      low = omega (arith, ap (λ (s : Share). s.low) part, c.part_with-part.ensures.low);
-      high = omega (arith, ap (λ (s : Share). s.high) part, c.part_with-part.ensures.high);
+      low = omega (arith, ap (λ (s : Share). s.low) part, c.half_with-half.ensures.low);
+      high = omega (arith, ap (λ (s : Share). s.high) part, c.half_with-half.ensures.high);
       laid = λ alone. c.in_ok-next.ensures.laid ∙ ap (λ (s : Share). with_cashes net (floor s.low s.high)) (sym part);
     }
