@@ -1,4 +1,5 @@
 pub mod Blocks
 pub mod Texts
 pub mod Shocked
+pub mod Sums
 pub mod Cases

@@ -9,11 +9,13 @@
 
 mod breaking;
 mod cuts;
+mod halved;
 mod outcomes;
 mod pieces;
 mod ruins;
 mod savings;
 mod shocks;
+mod singly;
 
 pub use breaking::tell_breaking;
 pub use outcomes::tell_outcomes;

@@ -3,7 +3,7 @@ use Rattle.std.proofs.Common.{◌≤◌, slice_range, sym, arith}
 use Rattle.stress.proofs.Outcomes.{tallies_add_up}
 use Rattle.clear_many.proofs.Counting.{counted_within}
 use Rattle.clear_many.proofs.Ranges.{ranges_join}
-use Rattle.clear_many.proofs.outcomes.OutcomesPieceworkVecU8Counting.merged.Goals as goal
+use Rattle.clear_many.proofs.halved.HalvedPieceworkVecU8Counting.merged.Goals as goal
 
 pub add-requires-clause-fits : goal.add-requires-clause-fits
 add-requires-clause-fits c =

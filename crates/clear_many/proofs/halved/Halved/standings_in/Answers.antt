@@ -8,7 +8,7 @@ use Rattle.descent.proofs.Lowest.{rows_have_floors}
 use Rattle.stress.specs.Shocks.{shocked}
 use Rattle.clear_many.specs.Shocked.{cash_row}
 use Rattle.clear_many.proofs.Shocked.{is_table, scenario_of_row}
-use Rattle.clear_many.proofs.outcomes.Outcomes.standings_in.Goals as goal
+use Rattle.clear_many.proofs.halved.Halved.standings_in.Goals as goal
 
 pub standings_at-requires-clause-ready : goal.standings_at-requires-clause-ready
 standings_at-requires-clause-ready c = record {

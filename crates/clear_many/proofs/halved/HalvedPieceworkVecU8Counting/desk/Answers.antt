@@ -1,7 +1,7 @@
 use Rattle.std.proofs.Common.{◌≡◌, ℕ, ◌-◌, ◌≤◌, drop, length, sym, take, ap, ◌∙◌, arith}
 use Rattle.descent.specs.Cashes.{cash_in_row, lowest}
 use Rattle.stress.specs.Outcomes.{tally}
-use Rattle.clear_many.proofs.outcomes.OutcomesPieceworkVecU8Counting.desk.Goals as goal
+use Rattle.clear_many.proofs.halved.HalvedPieceworkVecU8Counting.desk.Goals as goal
 
 pub returns : goal.returns
 returns c = λ low.

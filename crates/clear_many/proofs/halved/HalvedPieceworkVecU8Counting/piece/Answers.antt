@@ -10,7 +10,7 @@ use Rattle.stress.specs.Shocks.{shocked}
 use Rattle.stress.proofs.Kept.{length-shocked_from}
 use Rattle.stress.proofs.Outcomes.{one_scenario_more}
 use Rattle.clear_many.proofs.Counting.{as_many_counted, counted_within}
-use Rattle.clear_many.proofs.outcomes.OutcomesPieceworkVecU8Counting.piece.Goals as goal
+use Rattle.clear_many.proofs.halved.HalvedPieceworkVecU8Counting.piece.Goals as goal
 
 pub counted-requires-clause-standings : goal.counted-requires-clause-standings
 counted-requires-clause-standings c =

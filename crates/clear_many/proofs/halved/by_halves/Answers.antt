@@ -1,0 +1,8 @@
+-- The lines of all scenarios, and how often banks fall in all, are their sums.
+use Rattle.clear_many.proofs.Counting.{sums_of_all}
+use Rattle.clear_many.proofs.halved.by_halves.Goals as goal
+
+pub returns : goal.returns
+returns g c =
+    let made = c.in_ok-pieces.ensures in
+    sums_of_all c.args.net.now c.args.scenarios.now _ made.as_many made.in_order made.at_desk.2
