@@ -5,9 +5,10 @@ ghost use Rattle.clear_report.specs.Outcomes.{falls_text as falls_text_of, outco
 ghost use Rattle.clear_report.specs.Outcomes.{outcome_line as outcome_line_of};
 ghost use Rattle.clear_report.specs.Outcomes.{outcomes_header as header};
 ghost use Rattle.clear_report.specs.Words.{one_above_other};
+ghost use Rattle.clear_many.specs.Sums.{AreSumsOf};
 ghost use Rattle.clear_many.specs.Texts.{text_of};
 ghost use Rattle.std.specs.Prelude.{◌≡◌, ◌++◌, ◌≤◌, All, IfOk, OnOk, length};
-ghost use Rattle.stress.specs.Outcomes.{AreWithin, added, sums as sums_of, tally_of_one};
+ghost use Rattle.stress.specs.Outcomes.{AreWithin, added, sums as sums_by, tally_of_one};
 ghost use Rattle.stress.specs.Shocks.{IsScenarioOf};
 ghost use Rattle.stress.specs.declared.TheConstants.{MAX_SCENARIOS};
 
@@ -37,13 +38,25 @@ pub fn tell_outcomes<R: Threads + Sync>(
     requires scenarios_in_limit { length scenarios.now ≤ MAX_SCENARIOS }
     ensures { IfOk result (λ all. text_of all.items ≡ outcomes_text net.now scenarios.now) }
 {
-    let sums = if is_cheaper(net, scenarios) {
-        one_by_one(rt, alloc, net, scenarios)?
-    } else {
-        by_halves(rt, alloc, net, scenarios)?
-    };
-    let Sums { lines, tally } = sums;
+    let Sums { lines, tally } = sums_of(rt, alloc, net, scenarios)?;
     summed_up(alloc, net, lines, tally.as_slice())
+}
+
+// What the scenarios come to in sums, cleared as is cheaper.
+fn sums_of<R: Threads + Sync>(
+    rt: &R,
+    alloc: Global,
+    net: &Network,
+    scenarios: &[Scenario],
+) -> Result<Sums, Mem>
+    requires scenarios { All (IsScenarioOf net.now) scenarios.now }
+    requires scenarios_in_limit { length scenarios.now ≤ MAX_SCENARIOS }
+    ensures { IfOk result (AreSumsOf net.now scenarios.now) }
+{
+    if is_cheaper(net, scenarios) {
+        return one_by_one(rt, alloc, net, scenarios);
+    }
+    by_halves(rt, alloc, net, scenarios)
 }
 
 // What scenarios come to in sums: a line for each in file order, and how often each bank falls.
@@ -85,7 +98,7 @@ pub(crate) fn counted(
     requires over { length tally.old ≡ length left.now.banks }
     requires fits { AreWithin MAX_SCENARIOS tally.old }
     ensures text { IfOk result (λ text.
-        text.items ≡ outcome_line_of name.now (sums_of left.now (least left.now))) }
+        text.items ≡ outcome_line_of name.now (sums_by left.now (least left.now))) }
     ensures tally { OnOk result (tally.new
         ≡ added tally.old (tally_of_one (standings_of left.now (least left.now)))) }
 {

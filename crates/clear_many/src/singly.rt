@@ -118,7 +118,13 @@ impl<'a> Piecework<Vec<u8>, Counting> for Singly<'a> {
         let scenario = &self.scenarios[place];
         shock_again(self.net, scenario, &mut copy);
         let standings = cleared_anew(self.alloc, &copy)?;
-        let text = counted(self.alloc, &copy, standings.as_slice(), &scenario.name, &mut tally)?;
+        let text = counted(
+            self.alloc,
+            &copy,
+            standings.as_slice(),
+            &scenario.name,
+            &mut tally,
+        )?;
         Ok((text, Counting { copy, tally }))
     }
 
