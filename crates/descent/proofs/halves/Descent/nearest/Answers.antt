@@ -1,5 +1,5 @@
 -- A step that is taken out is one of the descent's, and those that are left are too.
-use Rattle.std.proofs.Common.{◌≡◌, ℕ, ◌+◌, ◌<◌, ◌++◌, List, Option, Some, IfSome, subst, arith}
+use Rattle.std.proofs.Common.{◌≡◌, ℕ, ◌++◌, List, Option, Some, IfSome, subst, arith}
 use Rattle.std.specs.Global.{Vec}
 use Rattle.std.specs.Option.{option_to_list}
 use Rattle.std.proofs.lemmas.List.Elements.{All-pop}

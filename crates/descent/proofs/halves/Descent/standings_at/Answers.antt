@@ -8,7 +8,6 @@ use Rattle.cascade.specs.Standings.{standings}
 use Rattle.cascade.proofs.OtherCash.{sums_alike}
 use Rattle.descent.specs.Cashes.{network_at, with_cashes}
 use Rattle.descent.specs.Halves.{IsWideStepOf}
-use Rattle.descent.specs.declared.halves.Step.{Step}
 use Rattle.descent.specs.declared.share.Share.{Share}
 use Rattle.descent.proofs.halves.Descent.standings_at.Goals as goal
 
