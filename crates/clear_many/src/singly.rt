@@ -22,10 +22,10 @@ use std::alloc::Global;
 use std::thread::Threads;
 use stress::{Scenario, Tally, shock_again};
 
-// Whether the scenarios are cleared sooner one by one than by halves of them. No answer depends on
-// it.
+// Whether the scenarios are cleared sooner one by one than by halves of them: also where no bank has
+// any cash. No answer depends on it.
 pub(crate) fn is_cheaper(net: &Network, scenarios: &[Scenario]) -> bool {
-    clears_in_one_sweep(net) && are_cut_unlike(scenarios)
+    net.cash_total() == 0 || (clears_in_one_sweep(net) && are_cut_unlike(scenarios))
 }
 
 // Whether each bank owes to such alone as stand after it in the file or owe nothing: then one sweep
