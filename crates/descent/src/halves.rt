@@ -51,7 +51,7 @@ impl Descent {
         })
     }
 
-    /// The network that was cleared last.
+    /// The network whose banks [`standings_at`](Descent::standings_at) told last, if it did not end in `Mem`.
     pub fn cleared(&self) -> &Network
         ensures { result.now ≡ self.now.laid }
     {

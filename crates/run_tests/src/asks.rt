@@ -61,17 +61,17 @@ fn answers_on(
     (right, two, says_so(alloc, &SeatBack { seat: master }))
 }
 
-// The same, on a new board of 1,000 banks.
-fn answers(alloc: Global, workers: u32, left: [u32; 3]) -> Result<Answers, Mem>
+// The same, on a new board of so many banks.
+fn answers(alloc: Global, banks: u32, workers: u32, left: [u32; 3]) -> Result<Answers, Mem>
     requires { (1 ≤ workers) × (workers ≤ 64) }
 {
-    let net = net_of(alloc, Sample::TwoPoorPairs)?;
+    let net = net_of(alloc, Sample::TwoPoorPairs(banks))?;
     let (board, master) = new_board(alloc, &net, workers)?;
     Ok(answers_on(alloc, &net, &board, master, workers, left))
 }
 
-// Workers, the banks whose bells are up, and whether they call two of the workers. There is no bank
-// 1,000.
+// Workers, those of 1,000 banks whose bells are up, and whether they call two of the workers. There
+// is no bank 1,000.
 const CALLING: [(u32, [u32; 3], bool); 18] = [
     (2, [0, 1, 2], true),
     (2, [0, 1, 1], true),
@@ -114,7 +114,7 @@ fn asked(place: u32) -> (u32, [u32; 3], bool)
 fn first_uncalled(alloc: Global) -> Result<Option<u32>, Mem> {
     for place in 0..144 {
         let (workers, left, wanted) = asked(place);
-        let (right, two, _) = answers(alloc, workers.clamp(1, 64), left)?;
+        let (right, two, _) = answers(alloc, 1000, workers.clamp(1, 64), left)?;
         if !right || two != wanted {
             return Ok(Some(place));
         }
@@ -126,15 +126,22 @@ fn first_uncalled(alloc: Global) -> Result<Option<u32>, Mem> {
 fn bells_of_two_workers_call_both(rt: HostRuntime) -> Result<(), Fail> {
     let wrong = first_uncalled(rt.alloc())?;
     assert_eq!(rt; wrong, None);
+    // The last bank of as many as there may be, and the one before it.
+    let other = answers(rt.alloc(), 10_000, 2, [4, 9_999, 9_999])?;
+    let same = answers(rt.alloc(), 10_000, 2, [4, 9_998, 9_998])?;
+    assert_eq!(rt;
+        (other.0, other.1, same.0, same.1),
+        (true, true, true, false)
+    );
     Ok(())
 }
 
-// There is no bank 1,000, so all bells are taken.
+// There is no bank 10,000, so all bells are taken.
 #[test]
 fn each_bell_is_up_until_it_is_taken_and_a_seat_says_why_it_is_given_back(
     rt: HostRuntime,
 ) -> Result<(), Fail> {
-    let told = answers(rt.alloc(), 1, [1000; 3])?;
+    let told = answers(rt.alloc(), 10_000, 1, [10_000; 3])?;
     assert_eq!(rt; told, (true, false, true));
     Ok(())
 }

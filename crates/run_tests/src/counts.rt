@@ -41,7 +41,7 @@ const COUNTED: [Row; 14] = [
     (Sample::TwoPairs, [1, 1], [2, 702, 2], [702, 2, 0, 1]),
     (Sample::TwoPairs, [4, 1], [2, 702, 2], [702, 6, 0, 4]),
     (
-        Sample::TwoPoorPairs,
+        Sample::TwoPoorPairs(1000),
         [64, 1],
         [1, 1000, 0],
         [1000, 64, 0, 64],

@@ -20,8 +20,8 @@ pub(crate) enum Sample {
     // 700 banks of nothing, but that the bank 6 owes the bank 2 a unit and the bank 7 owes the bank 3
     // one, and both have this. Each of both pairs is of one worker, where there are one, two or four.
     TwoPairs,
-    // The same of 1,000 banks, none of which has a unit.
-    TwoPoorPairs,
+    // The same of so many banks, none of which has a unit.
+    TwoPoorPairs(u32),
     // So many banks of a unit each, of which each from this number on owes the bank as many before
     // it. In each sweep over the banks all that a bank has goes down a step.
     Stairs(u32, u32),
@@ -39,7 +39,7 @@ fn size_of(sample: Sample) -> [u32; 2] {
         Sample::LongRing(_) => [2, 2],
         Sample::WideRing => [300, 300],
         Sample::TwoPairs => [700, 2],
-        Sample::TwoPoorPairs => [1000, 2],
+        Sample::TwoPoorPairs(banks) => [banks, 2],
         Sample::Stairs(banks, step) => [banks, banks.saturating_sub(step)],
         Sample::Five => [5, 3],
         Sample::Late(turn) => [turn.saturating_mul(2).saturating_add(2), 2],
@@ -92,10 +92,14 @@ fn late_debt(third: u32, debt: u32) -> (u32, u32, u64) {
 
 // Adds the banks of a sample, named by their numbers.
 fn add_banks(alloc: Global, net: &mut Network, sample: Sample, banks: u32) -> Result<(), Mem>
-    requires { banks ≤ 1000 }
+    requires { banks ≤ 10000 }
 {
     for number in 0..banks {
-        let name = [b'A' + (number / 32) as u8, b'A' + (number % 32) as u8];
+        let name = [
+            b'A' + (number / 1024) as u8,
+            b'A' + (number / 32 % 32) as u8,
+            b'A' + (number % 32) as u8,
+        ];
         add_bank(alloc, net, &name, cash_of(sample, number))?;
     }
     Ok(())
@@ -113,7 +117,7 @@ fn add_debts(net: &mut Network, sample: Sample, debts: u32) -> Result<(), Mem>
 
 fn add_all(alloc: Global, net: &mut Network, sample: Sample) -> Result<(), Mem> {
     let [banks, debts] = size_of(sample);
-    add_banks(alloc, net, sample, banks.min(1000))?;
+    add_banks(alloc, net, sample, banks.min(10_000))?;
     add_debts(net, sample, debts.min(1000))
 }
 

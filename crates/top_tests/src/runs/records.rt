@@ -239,6 +239,12 @@ const IN_ONE_ROUND: [(&str, &str, u64, u64); 7] = [
     ),
 ];
 
+// Two for each of four threads. In all but the second nobody has cash, and each of the two banks is
+// visited once.
+const SECOND_HAS_CASH: &str = "scenario = [{name=\"1\",cut=1000},{name=\"2\"},\
+    {name=\"3\",cut=1000},{name=\"4\",cut=1000},{name=\"5\",cut=1000},{name=\"6\",cut=1000},\
+    {name=\"7\",cut=1000},{name=\"8\",cut=1000}]";
+
 #[test]
 fn a_job_has_as_many_sweeps_as_it_says(rt: HostRuntime) -> Result<(), Fail> {
     for (task, banks, visits, last) in &IN_ONE_ROUND {
@@ -247,6 +253,10 @@ fn a_job_has_as_many_sweeps_as_it_says(rt: HostRuntime) -> Result<(), Fail> {
         let told = counted(&rt, rt.alloc(), (task, plan), texts)?;
         assert_eq!(rt; told, (*visits, *last, 0), "{task}");
     }
+    let texts = [RING_BANKS, OWE_SIXTY, SECOND_HAS_CASH];
+    let plan = "--workers 1 --sweeps 1000";
+    let told = counted(&rt, rt.alloc(), (STRESS, plan), texts)?;
+    assert_eq!(rt; told, (121 + 7 * 2, 121, 0));
     Ok(())
 }
 
